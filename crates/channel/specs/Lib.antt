@@ -1,0 +1,4 @@
+pub mod Promise
+pub mod Mail
+pub mod State
+pub mod Refusals

@@ -1,0 +1,1 @@
+// The context multicast channel between cards (000 §4 and §6).

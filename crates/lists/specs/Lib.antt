@@ -1,0 +1,11 @@
+pub mod Tests
+pub mod Every
+pub mod Loops
+pub mod Parts
+pub mod Listings
+pub mod Histories
+pub mod Latest
+pub mod Queues
+pub mod Filters
+pub mod Keys
+pub mod Sorting

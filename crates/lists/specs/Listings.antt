@@ -1,0 +1,41 @@
+-- A list given by what stands at each place: an array's first n elements, or n elements of a ring of slots from a head on.
+use Prim.Native.Nat.{ℕ, zero, suc, _+_, _%_, _<_}
+use mathlib.Core.Path.{_≡_, refl, ap, ap₂, _∙_}
+use mathlib.Core.List.{List, [], _∷_, _++_, map}
+use native.Mathlib.Omega.{arith}
+use lib.ListN.{length, length-append, getD}
+use lib.Seq.{getD-append-add}
+
+-- f 0, f 1, .. , f (n - 1)
+unfoldable pub listing {ℓ} : {A : Type ℓ} → (ℕ → A) → ℕ → List A
+listing f zero = []
+listing f (suc n) = listing f n ++ (f n ∷ [])
+
+pub listing-zero {ℓ} : {A : Type ℓ} (f : ℕ → A) → listing f 0 ≡ []
+unfolding listing
+listing-zero f = refl
+
+-- one more at the end
+pub listing-snoc {ℓ} : {A : Type ℓ} (f : ℕ → A) (n : ℕ) → listing f (suc n) ≡ listing f n ++ (f n ∷ [])
+unfolding listing
+listing-snoc f n = refl
+
+-- the first one
+pub listing-cons {ℓ} : {A : Type ℓ} (f : ℕ → A) (n : ℕ) → listing f (suc n) ≡ f 0 ∷ listing (λ k. f (suc k)) n
+unfolding listing
+listing-cons f zero = refl
+listing-cons f (suc n) = ap (λ l. l ++ (f (suc n) ∷ [])) (listing-cons f n)
+
+pub listing-cong {ℓ} : {A : Type ℓ} (f g : ℕ → A) (n : ℕ) → ((k : ℕ) → k < n → f k ≡ g k) → listing f n ≡ listing g n
+unfolding listing
+listing-cong f g zero e = refl
+listing-cong f g (suc n) e = ap₂ (λ x y. x ++ (y ∷ [])) (listing-cong f g n (λ k h. e k (omega arith))) (e n (omega arith))
+
+pub listing-length {ℓ} : {A : Type ℓ} (f : ℕ → A) (n : ℕ) → length (listing f n) ≡ n
+unfolding listing
+listing-length f zero = refl
+listing-length f (suc n) = length-append (listing f n) (f n ∷ []) ∙ (let h = listing-length f n in omega arith)
+
+-- n elements of a ring of c slots, oldest at h
+abbrev pub ring {ℓ} : {A : Type ℓ} → (ℕ → A) → ℕ → ℕ → ℕ → List A
+ring slot c h n = listing (λ k. slot ((h + k) % c)) n

@@ -1,0 +1,3 @@
+pub mod CardSet
+pub mod Update
+pub mod Placement

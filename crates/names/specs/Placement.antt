@@ -1,0 +1,58 @@
+-- A placement: which cards there are, where each task lives and where each register's copies lie (01, "Words and sizes", "Run file"), and
+-- when it is refused ("A start made from a placement without a file meets 3, then 4"). A run file's placement is judged by this too.
+use Prim.Native.Nat.{ℕ, _^_}
+use mathlib.Core.Bool.{Bool, cond, _&&_}
+use mathlib.Core.List.{List}
+use lib.Dec.{eqb, ltb, leb}
+use lib.ListN.{length, getD}
+use Rattle.lists.specs.Every.{each}
+use Rattle.names.specs.CardSet.{memberOf}
+
+pub record Placement : Type 0 where
+  pub cards : ℕ
+  pub homes : List ℕ  -- by task: its home card
+  pub copies : List ℕ  -- by register: the set of cards that hold a copy
+  pub primaries : List ℕ  -- by register: its primary card
+
+module _ (p : Placement) where
+  -- the other sizes are the tables' lengths
+  abbrev pub tasks : ℕ
+  tasks = length (p .homes)
+
+  abbrev pub registers : ℕ
+  registers = length (p .copies)
+
+  abbrev pub home : ℕ → ℕ
+  home c = getD (p .homes) c 0
+
+  abbrev pub holders : ℕ → ℕ
+  holders x = getD (p .copies) x 0
+
+  abbrev pub primary : ℕ → ℕ
+  primary x = getD (p .primaries) x 0
+
+  -- card i, which is present, holds a copy of register x
+  abbrev pub copy : ℕ → ℕ → Bool
+  copy x i = ltb i (p .cards) && memberOf (holders x) i
+
+  -- 3 "a size out of range": "Cards 1 to 8, registers 1 to 32, tasks 1 to 16". Parallel tables of unequal length count as such.
+  unfoldable pub sized : Bool
+  sized =
+      leb 1 (p .cards) && leb (p .cards) 8
+      && leb 1 registers && leb registers 32
+      && leb 1 tasks && leb tasks 16
+      && eqb (length (p .primaries)) registers
+
+  -- 4 "no copy, a copy or home on an absent card, or a primary without a copy"
+  unfoldable pub homePlaced : ℕ → Bool
+  homePlaced c = ltb (home c) (p .cards)
+
+  unfoldable pub registerPlaced : ℕ → Bool
+  registerPlaced x = leb 1 (holders x) && ltb (holders x) (2 ^ p .cards) && memberOf (holders x) (primary x)
+
+  unfoldable pub placed : Bool
+  placed = each tasks homePlaced && each registers registerPlaced
+
+  -- 0, or the refusal
+  unfoldable pub placementRefusal : ℕ
+  placementRefusal = cond sized (cond placed 0 4) 3

@@ -1,0 +1,91 @@
+// The vocabulary that the channel, the registers and the run files share: cards, tasks, registers and broadcast numbers as types of
+// their own, messages between cards, sets of cards, and what the functions of an update do.
+ghost use mathlib.Core.Path.{_≡_};
+ghost use Rattle.names.specs.CardSet.{memberOf, sizeOf};
+ghost use Rattle.names.specs.Update.{sumOf, largerOf, updated};
+
+// A card (000: site), numbered from 0.
+pub struct Card(pub u32);
+
+// A task (000: client), numbered from 0.
+pub struct Task(pub u32);
+
+// A register (000: object), numbered from 0.
+pub struct Register(pub u32);
+
+// The number of a broadcast, from 1; as a tag, the number of broadcasts that the sender had taken.
+pub struct BroadcastNumber(pub u32);
+
+// What a message asks or answers (000 §5.1).
+pub enum Body {
+    // read-do
+    ReadDo,
+    // update-do: function and operand
+    UpdateDo(u32, u32),
+    // read-reply: the value
+    ReadReply(u32),
+    // update-reply
+    UpdateReply,
+}
+
+// A message serves the open request of one task on one register.
+pub struct Message {
+    pub task: Task,
+    pub register: Register,
+    pub body: Body,
+}
+
+// Whether a card is in a set. A set of cards is a number: bit i, worth 2^i, is set where card i is in it.
+pub fn member(set: u32, card: Card) -> bool
+    ensures { λ r. ⌜ r ≡ memberOf set (card .0) ⌝ }
+{
+    let i = card.0;
+    if 32 <= i {
+        return false;
+    }
+    (set >> i) % 2 == 1
+}
+
+// How many of the cards 0 to 7 are in a set.
+pub fn size(set: u32) -> u32
+    ensures { λ r. ⌜ r ≡ sizeOf set ⌝ }
+{
+    set % 2
+        + set / 2 % 2
+        + set / 4 % 2
+        + set / 8 % 2
+        + set / 16 % 2
+        + set / 32 % 2
+        + set / 64 % 2
+        + set / 128 % 2
+}
+
+// Function 2.
+fn sum(value: u32, operand: u32) -> u32
+    ensures { λ r. ⌜ r ≡ sumOf value operand ⌝ }
+{
+    std::num::wrapping_add_u32(value, operand)
+}
+
+// Function 3.
+fn larger(value: u32, operand: u32) -> u32
+    ensures { λ r. ⌜ r ≡ largerOf value operand ⌝ }
+{
+    if value < operand {
+        return operand;
+    }
+    value
+}
+
+// What an update makes of a value. An unknown function leaves it.
+pub fn update(function: u32, operand: u32, value: u32) -> u32
+    ensures { λ r. ⌜ r ≡ updated function operand value ⌝ }
+{
+    match function {
+        1 => operand,
+        2 => sum(value, operand),
+        3 => larger(value, operand),
+        4 => value | operand,
+        _ => value,
+    }
+}
