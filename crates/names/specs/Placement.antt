@@ -14,6 +14,18 @@ pub record Placement : Type 0 where
   pub copies : List ℕ  -- by register: the set of cards that hold a copy
   pub primaries : List ℕ  -- by register: its primary card
 
+-- 3 "a size out of range": "Cards 1 to 8, registers 1 to 32, tasks 1 to 16"
+unfoldable pub sizesInRange : ℕ → ℕ → ℕ → Bool
+sizesInRange cards registers tasks = leb 1 cards && leb cards 8 && leb 1 registers && leb registers 32 && leb 1 tasks && leb tasks 16
+
+-- a home card is present
+unfoldable pub homePlaced : ℕ → ℕ → Bool
+homePlaced cards home = ltb home cards
+
+-- a register has a copy, none on an absent card, and its primary has one
+unfoldable pub registerPlaced : ℕ → ℕ → ℕ → Bool
+registerPlaced cards holders primary = leb 1 holders && ltb holders (2 ^ cards) && memberOf holders primary
+
 module _ (p : Placement) where
   -- the other sizes are the tables' lengths
   abbrev pub tasks : ℕ
@@ -35,23 +47,13 @@ module _ (p : Placement) where
   abbrev pub copy : ℕ → ℕ → Bool
   copy x i = ltb i (p .cards) && memberOf (holders x) i
 
-  -- 3 "a size out of range": "Cards 1 to 8, registers 1 to 32, tasks 1 to 16". Parallel tables of unequal length count as such.
+  -- 3. Parallel tables of unequal length count as a size out of range.
   unfoldable pub sized : Bool
-  sized =
-      leb 1 (p .cards) && leb (p .cards) 8
-      && leb 1 registers && leb registers 32
-      && leb 1 tasks && leb tasks 16
-      && eqb (length (p .primaries)) registers
+  sized = sizesInRange (p .cards) registers tasks && eqb (length (p .primaries)) registers
 
   -- 4 "no copy, a copy or home on an absent card, or a primary without a copy"
-  unfoldable pub homePlaced : ℕ → Bool
-  homePlaced c = ltb (home c) (p .cards)
-
-  unfoldable pub registerPlaced : ℕ → Bool
-  registerPlaced x = leb 1 (holders x) && ltb (holders x) (2 ^ p .cards) && memberOf (holders x) (primary x)
-
   unfoldable pub placed : Bool
-  placed = each tasks homePlaced && each registers registerPlaced
+  placed = each tasks (λ c. homePlaced (p .cards) (home c)) && each registers (λ x. registerPlaced (p .cards) (holders x) (primary x))
 
   -- 0, or the refusal
   unfoldable pub placementRefusal : ℕ
