@@ -1,11 +1,13 @@
 -- Tests on numbers and Booleans. `search (needs, cases)` closes a return whose contract picks by tests: each rule of `cases` gives a
 -- test's value from the fact that a branch's arm knows.
-use Prim.Native.Nat.{ℕ, _+_, _≤_}
+use Prim.Native.Nat.{ℕ, _+_, _*_, _/_, _≤_, _<_}
 use mathlib.Core.Path.{_≡_, refl, sym, _∙_}
 use mathlib.Core.Logic.{_⊎_, inl, inr}
 use mathlib.Core.Bool.{Bool, true, false, cond, _&&_, true≢false, false≢true}
 use native.Mathlib.Omega.{arith}
-use lib.Dec.{eqb}
+use lib.Dec.{eqb, ltb}
+use native.Mathlib.Decide.{decLt}
+use native.Mathlib.Nat.{div-eq-of-lt, div-lt-iff-lt-mul}
 use borrow.Author.Tests.{lt-ltb, le-ltb, le-leb, lt-leb, eq-eqb, ne-eqb}
 
 pub ruleset cases = (lt-ltb, le-ltb, le-leb, lt-leb, eq-eqb, ne-eqb)
@@ -50,3 +52,13 @@ and-intro p q = rw (p, q)
 pub and-false : (b : Bool) → (b && false) ≡ false
 and-false true = refl
 and-false false = refl
+
+-- a quotient is zero exactly where the number is below the divisor
+pub div-zero : (a b : ℕ) → 0 < b → eqb (a / b) 0 ≡ ltb a b
+div-zero a b h = go (decLt a b)
+  where
+    go : Dec (a < b) → eqb (a / b) 0 ≡ ltb a b
+    go (yes l) = rw (div-eq-of-lt l, lt-ltb a b l)
+    go (no n) =
+        ne-eqb (a / b) 0 (λ q. let w = div-lt-iff-lt-mul {k = b} {x = a} {y = 1} h .0 (omega arith) in absurd (omega arith))
+        ∙ sym (le-ltb a b (omega arith))

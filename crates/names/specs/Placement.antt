@@ -26,6 +26,15 @@ homePlaced cards home = ltb home cards
 unfoldable pub registerPlaced : ℕ → ℕ → ℕ → Bool
 registerPlaced cards holders primary = leb 1 holders && ltb holders (2 ^ cards) && memberOf holders primary
 
+abbrev pub placement : ℕ → List ℕ → List ℕ → List ℕ → Placement
+placement cards homes copies primaries = record { cards = cards; homes = homes; copies = copies; primaries = primaries }
+
+unfoldable pub homesPlaced : ℕ → List ℕ → Bool
+homesPlaced cards homes = each (length homes) (λ c. homePlaced cards (getD homes c 0))
+
+unfoldable pub registersPlaced : ℕ → List ℕ → List ℕ → Bool
+registersPlaced cards copies primaries = each (length copies) (λ x. registerPlaced cards (getD copies x 0) (getD primaries x 0))
+
 module _ (p : Placement) where
   -- the other sizes are the tables' lengths
   abbrev pub tasks : ℕ
@@ -53,7 +62,7 @@ module _ (p : Placement) where
 
   -- 4 "no copy, a copy or home on an absent card, or a primary without a copy"
   unfoldable pub placed : Bool
-  placed = each tasks (λ c. homePlaced (p .cards) (home c)) && each registers (λ x. registerPlaced (p .cards) (holders x) (primary x))
+  placed = homesPlaced (p .cards) (p .homes) && registersPlaced (p .cards) (p .copies) (p .primaries)
 
   -- 0, or the refusal
   unfoldable pub placementRefusal : ℕ

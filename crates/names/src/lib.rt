@@ -4,6 +4,8 @@ ghost use mathlib.Core.Path.{_≡_};
 ghost use Rattle.names.specs.CardSet.{memberOf, sizeOf};
 ghost use Rattle.names.specs.Update.{sumOf, largerOf, updated};
 
+pub mod placement;
+
 // A card (000: site), numbered from 0.
 pub struct Card(pub u32);
 
@@ -33,6 +35,12 @@ pub struct Message {
     pub task: Task,
     pub register: Register,
     pub body: Body,
+}
+
+// What a step answers: 0 where it is taken, else its refusal; and the value that a taken report of a read gives, else 0.
+pub struct Answer {
+    pub result: u8,
+    pub value: u32,
 }
 
 // Whether a card is in a set. A set of cards is a number: bit i, worth 2^i, is set where card i is in it.
