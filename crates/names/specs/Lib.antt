@@ -1,3 +1,4 @@
 pub mod CardSet
 pub mod Update
 pub mod Placement
+pub mod Step
