@@ -39,3 +39,17 @@ listing-length f (suc n) = length-append (listing f n) (f n ∷ []) ∙ (let h =
 -- n elements of a ring of c slots, oldest at h
 abbrev pub ring {ℓ} : {A : Type ℓ} → (ℕ → A) → ℕ → ℕ → ℕ → List A
 ring slot c h n = listing (λ k. slot ((h + k) % c)) n
+
+-- a list is the listing of its elements
+pub listing-all {ℓ} : {A : Type ℓ} (l : List A) (d : A) → listing (λ k. getD l k d) (length l) ≡ l
+listing-all [] d = listing-zero _
+listing-all (x ∷ l) d = listing-cons (λ k. getD (x ∷ l) k d) (length l) ∙ ap (x ∷_) (listing-all l d)
+
+pub map-listing {ℓ κ} : {A : Type ℓ} {B : Type κ} (h : A → B) (f : ℕ → A) (n : ℕ) → map h (listing f n) ≡ listing (λ k. h (f k)) n
+unfolding listing
+map-listing h f zero = refl
+map-listing h f (suc n) = map-snoc (listing f n) ∙ ap (λ l. l ++ (h (f n) ∷ [])) (map-listing h f n)
+  where
+    map-snoc : (l : List _) → map h (l ++ (f n ∷ [])) ≡ map h l ++ (h (f n) ∷ [])
+    map-snoc [] = refl
+    map-snoc (x ∷ l) = ap (h x ∷_) (map-snoc l)

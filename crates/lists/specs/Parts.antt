@@ -1,10 +1,11 @@
 -- Parts of a list: n elements from a place on, and the rest from a place on as a loan of `&mut s[a..]` states it and gives it back.
-use Prim.Native.Nat.{ℕ, _+_, _-_, _≤_, _<_, min}
-use mathlib.Core.Path.{_≡_, _∙_}
-use mathlib.Core.List.{List, []}
+use Prim.Native.Nat.{ℕ, suc, _+_, _-_, _≤_, _<_, min}
+use mathlib.Core.Path.{_≡_, refl, sym, ap, ap₂, _∙_}
+use mathlib.Core.List.{List, [], _∷_, _++_}
 use native.Mathlib.Omega.{arith}
-use lib.ListN.{length, getD, take, drop, length-take, length-drop, drop-of-length-le, List·getD-eq-default}
-use lib.Seq.{take-all, getD-take, getD-drop}
+use native.Mathlib.Nat.{add-suc}
+use lib.ListN.{length, getD, set, take, drop, length-take, length-drop, drop-of-length-le, List·getD-eq-default, take-append-drop}
+use lib.Seq.{take-all, getD-take, getD-drop, take-set-le, drop-set-add, sets, sets-eq, take-at, drop-at}
 
 -- n elements from place a on, fewer where the list ends before
 abbrev pub part {ℓ} : {A : Type ℓ} → List A → ℕ → ℕ → List A
@@ -31,3 +32,20 @@ tail-part a ys = take-all (length ys - a) (drop a ys) (omega (arith, length-drop
 
 pub tail-rest {ℓ} : {A : Type ℓ} (a : ℕ) (ys : List A) → drop (length ys - a) (drop a ys) ≡ []
 tail-rest a ys = drop-of-length-le (drop a ys) {i = length ys - a} (omega (arith, length-drop a ys))
+
+-- stores into the part from a on are stores into the list
+pub sets-in-tail {ℓ} : {A : Type ℓ} (a : ℕ) (ys : List A) (i : ℕ) (vs : List A) → take a ys ++ sets (drop a ys) i vs ≡ sets ys (a + i) vs
+sets-in-tail a ys i [] = take-append-drop a ys
+sets-in-tail a ys i (v ∷ vs) =
+    ap₂ (λ p q. p ++ sets q (suc i) vs) (sym (take-set-le a ys (a + i) v (omega arith))) (sym (drop-set-add a ys i v))
+    ∙ sets-in-tail a (set ys (a + i) v) (suc i) vs
+    ∙ ap (λ k. sets (set ys (a + i) v) k vs) (add-suc a i)
+
+-- stores where two lists meet
+pub sets-at-seam {ℓ} : {A : Type ℓ} (p q vs : List A) (i : ℕ) → length p ≡ i → length vs ≤ length q → sets (p ++ q) i vs ≡ p ++ (vs ++ drop (length vs) q)
+sets-at-seam p q vs i e h =
+    let s = sets-in-tail (length p) (p ++ q) 0 vs in
+    let n : length p + 0 ≡ i = omega arith in
+    let z : 0 + length vs ≡ length vs = omega arith in
+    sym (rw (take-at p q (length p) refl, drop-at p q (length p) refl, n) at s)
+    ∙ ap (λ r. p ++ r) (sets-eq vs q 0 (omega arith) ∙ ap (λ k. vs ++ drop k q) z)

@@ -1,1 +1,61 @@
--- The answer file.
+-- The answer file (01, "Run file and answer file"): its bytes, and how it is written into a lent output step by step.
+use Prim.Native.Nat.{ℕ, _+_, _*_, _%_, _/_}
+use mathlib.Core.Bool.{Bool, cond, _||_, not}
+use mathlib.Core.List.{List, [], _∷_, _++_, map}
+use lib.Dec.{eqb, ltb}
+use lib.ListN.{length, getD, set, drop}
+use lib.Seq.{sets}
+use Rattle.lists.specs.Listings.{listing}
+use Rattle.lists.specs.Loops.{turns}
+use Rattle.names.specs.declared.Answer.{Answer}
+use Rattle.runfile.specs.RunFile.{twoBytes, joined}
+
+-- a value in four bytes, low byte first
+abbrev pub fourBytes : ℕ → List ℕ
+fourBytes v = v % 256 ∷ v / 256 % 256 ∷ v / 65536 % 256 ∷ v / 16777216 % 256 ∷ []
+
+-- "The answer file is N (two bytes), then two parallel arrays over steps: result (a byte, ..) and value (four bytes, low first)"
+unfoldable pub answerBytes : List Answer → List ℕ
+answerBytes answers = twoBytes (length answers) ++ map (λ a. a .result) answers ++ joined (map (λ a. fourBytes (a .value)) answers)
+
+-- an output that has the answer file in it: "bytes past 2 + 5N are untouched"
+unfoldable pub answered : List Answer → List ℕ → List ℕ
+answered answers out = answerBytes answers ++ drop (2 + 5 * length answers) out
+
+-- ---- step by step
+
+-- the four bytes of v at a place
+unfoldable pub wordStored : ℕ → ℕ → List ℕ → List ℕ
+wordStored at v out = sets out at (fourBytes v)
+
+-- N, of n steps
+unfoldable pub headed : ℕ → List ℕ → List ℕ
+headed n out = sets out 0 (twoBytes n)
+
+-- the answer of step k of n. "The value array starts at byte 2 + N of the lent buffer and is written there"
+unfoldable pub putAnswer : ℕ → ℕ → Answer → List ℕ → List ℕ
+putAnswer n k a out = wordStored (2 + n + 4 * k) (a .value) (set out (2 + k) (a .result))
+
+-- the first k answers of n
+unfoldable pub putAnswers : ℕ → (ℕ → Answer) → ℕ → List ℕ → List ℕ
+putAnswers n answer k out = turns (λ j. putAnswer n j (answer j)) k out
+
+-- ---- a whole answer file from two tables
+
+abbrev pub answerAt : List ℕ → List ℕ → ℕ → Answer
+answerAt results values k = record { result = getD results k 0; value = getD values k 0 }
+
+abbrev pub answersOf : List ℕ → List ℕ → List Answer
+answersOf results values = listing (answerAt results values) (length results)
+
+-- 3 for more than 4,096 steps or tables of unequal length, then 5 "output shorter than 2 + 5N"
+unfoldable pub writeRefusal : List ℕ → List ℕ → List ℕ → ℕ
+writeRefusal results values out =
+    cond (ltb 4096 (length results)) 3
+    (cond (eqb (length values) (length results))
+    (cond (ltb (length out) (2 + 5 * length results)) 5 0)
+    3)
+
+-- a refusal leaves the output untouched
+unfoldable pub written : List ℕ → List ℕ → List ℕ → List ℕ
+written results values out = cond (eqb (writeRefusal results values out) 0) (answered (answersOf results values) out) out

@@ -9,6 +9,8 @@ use names::Card;
 use names::Register;
 use names::Task;
 
+pub mod answer;
+
 // The sizes that a run file gives first.
 pub struct Sizes {
     pub cards: u32,
