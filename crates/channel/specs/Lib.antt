@@ -2,3 +2,12 @@ pub mod Promise
 pub mod Mail
 pub mod State
 pub mod Refusals
+pub mod Layout
+pub mod Letters
+pub mod Answers
+pub mod Begin
+pub mod Inbox
+pub mod TakeBroadcast
+pub mod TakeSingle
+pub mod Dispatch
+pub mod Sized

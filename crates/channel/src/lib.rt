@@ -1,1 +1,52 @@
-// The context multicast channel between cards (000 §4 and §6).
+// The context multicast channel between cards (000 §4 and §6): broadcasts, single messages in flight and held, and inboxes, in one array
+// of words that the caller lends. specs/Layout says where each thing lies.
+use names::Card;
+use names::Message;
+
+mod answers;
+mod broadcast;
+mod inbox;
+mod layout;
+mod letters;
+mod send;
+mod single;
+mod sized;
+
+pub use broadcast::take_broadcast;
+pub use inbox::receive;
+pub use layout::begin;
+pub use layout::cards;
+pub use layout::made;
+pub use layout::registers;
+pub use layout::taken;
+pub use layout::tasks;
+pub use send::dispatch;
+pub use single::take_single;
+pub use sized::well_sized;
+
+// A message with its sender and its destinations, a set of cards.
+pub struct Letter {
+    pub message: Message,
+    pub from: Card,
+    pub to: u32,
+}
+
+// What a call answers; `answerNumber` gives document 01's number of each.
+pub enum Answer {
+    Done,
+    BadSize,
+    IllSized,
+    NoTask,
+    NoCard,
+    NoBroadcast,
+    NoneInFlight,
+    FarBehind,
+    Crowded,
+}
+
+// What receiving finds; `receivedNumber` gives document 01's number of each.
+pub enum Received {
+    Got(Message),
+    NoSuchCard,
+    Empty,
+}

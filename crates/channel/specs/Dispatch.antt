@@ -1,0 +1,55 @@
+-- The channel's part of step 6: "More than one destination: it gets the next broadcast number, from 1. One destination: it is tagged with
+-- the number of broadcasts this card has taken and is in flight."
+use Prim.Native.Nat.{ℕ, zero, suc, _+_, _*_, _%_}
+use mathlib.Core.Bool.{Bool, true, false, cond, _&&_}
+use mathlib.Core.List.{List}
+use lib.Dec.{eqb, ltb, leb}
+use lib.ListN.{getD, set}
+use Rattle.lists.specs.Every.{each}
+use Rattle.names.specs.declared.Card.{Card}
+use Rattle.names.specs.declared.Message.{Message}
+use Rattle.channel.specs.declared.Letter.{Letter}
+use Rattle.channel.specs.declared.Answer.{Answer}
+use Rattle.channel.specs.declared.Answer.the-variants.{Done, IllSized, NoCard, FarBehind}
+use Rattle.channel.specs.Answers.{isDone}
+use Rattle.channel.specs.Layout.{madeWord, cardsOf, madeOf, takenOf, broadcastBlock, flightBlock}
+use Rattle.channel.specs.Letters.{stored, several, fits}
+use Rattle.channel.specs.TakeSingle.{noFlight}
+
+-- one broadcast more leaves card i at most 64 behind
+unfoldable pub nearAt : List ℕ → ℕ → Bool
+nearAt ws i = leb (madeOf ws + 1) (takenOf ws i + 64)
+
+unfoldable pub near : List ℕ → Bool
+near ws = each (cardsOf ws) (nearAt ws)
+
+-- 34 "a broadcast would leave some card more than 64 behind"; 6 for the letter, and "broadcast numbers .. end at 65,535"
+unfoldable pub castAnswer : List ℕ → Letter → Answer
+castAnswer ws l = cond (near ws) (cond (fits ws l) (cond (ltb (madeOf ws) 65535) Done IllSized) IllSized) FarBehind
+
+unfoldable pub castMemory : List ℕ → Letter → List ℕ
+castMemory ws l =
+    cond (isDone (castAnswer ws l)) (set (stored ws (broadcastBlock (madeOf ws + 1)) l (madeOf ws + 1)) madeWord (madeOf ws + 1)) ws
+
+-- 6 for the letter, and "a task has at most one message in flight"
+unfoldable pub flyAnswer : List ℕ → Letter → Answer
+flyAnswer ws l = cond (fits ws l) (cond (noFlight ws (l .message .task .0)) Done IllSized) IllSized
+
+unfoldable pub flyMemory : List ℕ → ℕ → Letter → List ℕ
+flyMemory ws i l = cond (isDone (flyAnswer ws l)) (stored ws (flightBlock (l .message .task .0)) l (takenOf ws i)) ws
+
+abbrev pub letterOf : Card → Message → ℕ → Letter
+letterOf card m to = record { message = m; from = card; to = to }
+
+-- 14 an absent card
+unfoldable pub dispatchAnswer : List ℕ → Card → Message → ℕ → Answer
+dispatchAnswer ws card m to =
+    cond (ltb (card .0) (cardsOf ws))
+    (cond (several to) (castAnswer ws (letterOf card m to)) (flyAnswer ws (letterOf card m to)))
+    NoCard
+
+unfoldable pub dispatchMemory : List ℕ → Card → Message → ℕ → List ℕ
+dispatchMemory ws card m to =
+    cond (ltb (card .0) (cardsOf ws))
+    (cond (several to) (castMemory ws (letterOf card m to)) (flyMemory ws (card .0) (letterOf card m to)))
+    ws

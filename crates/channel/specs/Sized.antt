@@ -1,0 +1,60 @@
+-- A well-sized memory: what a step must find, else it is refused with 6 ("an ill-sized state: a size, number or queue length past its
+-- limit .. A home, destination or message field naming an absent card, task or register, or an unknown function, is past its limit too. So
+-- is a card's number of broadcasts taken when it is above the number made or more than 64 below it"). The parts of absent cards and tasks
+-- are not looked at.
+use Prim.Native.Nat.{ℕ, _+_, _-_, _%_, min}
+use mathlib.Core.Bool.{Bool, _&&_, _||_}
+use mathlib.Core.List.{List}
+use lib.Dec.{eqb, ltb, leb}
+use lib.ListN.{getD}
+use Rattle.lists.specs.Every.{each}
+use Rattle.names.specs.CardSet.{memberOf}
+use Rattle.channel.specs.Layout.{cardsWord, tasksWord, registersWord, cardsOf, tasksOf, madeOf, takenOf, headOf, countOf, heldCountOf, placeOf, heldBlock, flightBlock, broadcastBlock}
+use Rattle.channel.specs.Letters.{letterAt, kindAt, several, single, fits}
+use Rattle.channel.specs.Begin.{sizesFit}
+use Rattle.channel.specs.TakeSingle.{noFlight}
+
+-- block b has a message, and no field of it is past its limit
+unfoldable pub blockFits : List ℕ → ℕ → Bool
+blockFits ws b = leb 1 (kindAt ws b) && leb (kindAt ws b) 4 && fits ws (letterAt ws b)
+
+-- place k of card i's inbox: "It joins the inbox if the card is a destination"
+unfoldable pub inboxFits : List ℕ → ℕ → ℕ → Bool
+inboxFits ws i k = blockFits ws (placeOf ws i k) && memberOf (letterAt ws (placeOf ws i k) .to) i
+
+-- place k of what is held for card i: "held single messages", each at "its destination"
+unfoldable pub heldFits : List ℕ → ℕ → ℕ → Bool
+heldFits ws i k =
+    blockFits ws (heldBlock i k) && single (letterAt ws (heldBlock i k) .to) && memberOf (letterAt ws (heldBlock i k) .to) i
+
+-- the flight slot of task t: empty, or "the named task's message in flight", with "one destination"
+unfoldable pub flightFits : List ℕ → ℕ → Bool
+flightFits ws t =
+    noFlight ws t
+    || (blockFits ws (flightBlock t) && eqb (letterAt ws (flightBlock t) .message .task .0) t && single (letterAt ws (flightBlock t) .to))
+
+-- broadcast n, of "more than one destination"
+unfoldable pub broadcastFits : List ℕ → ℕ → Bool
+broadcastFits ws n = blockFits ws (broadcastBlock n) && several (letterAt ws (broadcastBlock n) .to)
+
+-- the counts of card i: "an inbox 48, and at most 16 messages are held"; taken neither above the number made nor more than 64 below it
+unfoldable pub countsFit : List ℕ → ℕ → Bool
+countsFit ws i =
+    leb (takenOf ws i) (madeOf ws) && leb (madeOf ws) (takenOf ws i + 64)
+    && ltb (headOf ws i) 48 && leb (countOf ws i) 48 && leb (heldCountOf ws i) 16
+
+-- card i's part
+unfoldable pub cardFits : List ℕ → ℕ → Bool
+cardFits ws i = countsFit ws i && each (min (countOf ws i) 48) (inboxFits ws i) && each (min (heldCountOf ws i) 16) (heldFits ws i)
+
+-- the last k-th broadcast, from 0; those before the last 64 are overwritten, and every card has taken them
+unfoldable pub recentFits : List ℕ → ℕ → Bool
+recentFits ws k = broadcastFits ws (madeOf ws - k)
+
+-- the sizes, and "broadcast numbers .. end at 65,535"
+unfoldable pub headFits : List ℕ → Bool
+headFits ws = sizesFit (getD ws cardsWord 0) (getD ws tasksWord 0) (getD ws registersWord 0) && leb (madeOf ws) 65535
+
+unfoldable pub wellSized : List ℕ → Bool
+wellSized ws =
+    headFits ws && each (cardsOf ws) (cardFits ws) && each (tasksOf ws) (flightFits ws) && each (min (madeOf ws) 64) (recentFits ws)

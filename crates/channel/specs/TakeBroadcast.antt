@@ -1,0 +1,105 @@
+-- Step 7: "the card takes the next number. It joins the inbox if the card is a destination, else it is dropped. Then held single messages
+-- whose tag equals the new number join, in order of arrival."
+use Prim.Native.Nat.{ℕ, zero, suc, _+_, _*_, _%_, min}
+use mathlib.Core.Path.{_≡_, refl}
+use mathlib.Core.Bool.{Bool, true, false, cond}
+use mathlib.Core.List.{List}
+use lib.Dec.{eqb, ltb, leb}
+use lib.ListN.{getD, set}
+use Rattle.lists.specs.Loops.{turns, turns-more, total}
+use Rattle.names.specs.CardSet.{memberOf}
+use Rattle.names.specs.declared.Card.{Card}
+use Rattle.channel.specs.declared.Letter.{Letter}
+use Rattle.channel.specs.declared.Answer.{Answer}
+use Rattle.channel.specs.declared.Answer.the-variants.{Done, IllSized, NoCard, NoBroadcast, Crowded}
+use Rattle.channel.specs.Answers.{isDone}
+use Rattle.channel.specs.Layout.{takenWord, heldWord, cardsOf, madeOf, takenOf, countOf, heldCountOf, placeOf, heldBlock, broadcastBlock}
+use Rattle.channel.specs.Letters.{letterAt, tagAt, stored, several}
+use Rattle.channel.specs.Inbox.{pushed}
+
+-- 1 where held message k of card i waits for broadcast n, else 0
+unfoldable pub readyAt : List ℕ → ℕ → ℕ → ℕ → ℕ
+readyAt ws i n k = cond (eqb (tagAt ws (heldBlock i k)) n) 1 0
+
+-- how many held messages of card i wait for broadcast n
+unfoldable pub releasableOf : List ℕ → ℕ → ℕ → ℕ
+releasableOf ws i n = total (readyAt ws i n) (min (heldCountOf ws i) 16)
+
+-- 1 where the message at place k of card i's inbox came by broadcast, else 0
+unfoldable pub broadcastAt : List ℕ → ℕ → ℕ → ℕ
+broadcastAt ws i k = cond (several (letterAt ws (placeOf ws i k) .to)) 1 0
+
+-- how many broadcasts stand in card i's inbox
+unfoldable pub broadcastsOf : List ℕ → ℕ → ℕ
+broadcastsOf ws i = total (broadcastAt ws i) (min (countOf ws i) 48)
+
+-- a pass over the held messages of a card: the words, and how many stay
+pub record Sweep : Type 0 where
+  pub words : List ℕ
+  pub kept : ℕ
+
+-- held message k of card i joins the inbox where its tag is n, and else it moves down to place `kept`
+unfoldable pub sweptWords : ℕ → ℕ → ℕ → List ℕ → ℕ → List ℕ
+sweptWords i n k ws kept =
+    cond (eqb (tagAt ws (heldBlock i k)) n)
+    (pushed ws i (letterAt ws (heldBlock i k)))
+    (stored ws (heldBlock i kept) (letterAt ws (heldBlock i k)) (tagAt ws (heldBlock i k)))
+
+unfoldable pub sweptKept : ℕ → ℕ → ℕ → List ℕ → ℕ → ℕ
+sweptKept i n k ws kept = cond (eqb (tagAt ws (heldBlock i k)) n) kept (kept + 1)
+
+unfoldable pub swept : ℕ → ℕ → ℕ → Sweep → Sweep
+swept i n k s = record { words = sweptWords i n k (s .words) (s .kept); kept = sweptKept i n k (s .words) (s .kept) }
+
+-- the first k of them
+unfoldable pub sweeps : ℕ → ℕ → ℕ → List ℕ → Sweep
+sweeps i n k ws = turns (swept i n) k (record { words = ws; kept = 0 })
+
+pub sweeps-zero : (i n : ℕ) (ws : List ℕ) → sweeps i n 0 ws ≡ record { words = ws; kept = 0 }
+unfolding sweeps turns
+sweeps-zero i n ws = refl
+
+pub sweeps-more : (i n k : ℕ) (ws : List ℕ) → sweeps i n (k + 1) ws ≡ swept i n k (sweeps i n k ws)
+unfolding sweeps
+sweeps-more i n k ws = turns-more (swept i n) k _
+
+-- the held messages of card i with tag n join its inbox, and the others close up
+unfoldable pub releasedWords : List ℕ → ℕ → ℕ → List ℕ
+releasedWords ws i n =
+    let s : Sweep = sweeps i n (min (heldCountOf ws i) 16) ws in
+    set (s .words) (heldWord i) (s .kept)
+
+-- card i has taken broadcast n, whose letter is l; `there`: it is a destination
+unfoldable pub joined : List ℕ → ℕ → ℕ → Letter → Bool → List ℕ
+joined ws i n l there = releasedWords (cond there (pushed (set ws (takenWord i) n) i l) (set ws (takenWord i) n)) i n
+
+-- the next broadcast for card i
+abbrev pub nextLetter : List ℕ → ℕ → Letter
+nextLetter ws i = letterAt ws (broadcastBlock (takenOf ws i + 1))
+
+-- card i is a destination of it
+abbrev pub nextThere : List ℕ → ℕ → Bool
+nextThere ws i = memberOf (nextLetter ws i .to) i
+
+-- 35 "the card is a destination and its inbox already has 32 undelivered broadcasts"; 6 "an inbox 48"
+unfoldable pub roomAnswer : List ℕ → ℕ → ℕ → Bool → Answer
+roomAnswer ws i n there =
+    cond there
+    (cond (leb 32 (broadcastsOf ws i)) Crowded (cond (ltb 48 (countOf ws i + releasableOf ws i n + 1)) IllSized Done))
+    (cond (ltb 48 (countOf ws i + releasableOf ws i n)) IllSized Done)
+
+-- 14 an absent card; 31 "no broadcast to take"
+unfoldable pub takeAnswer : List ℕ → Card → Answer
+takeAnswer ws card =
+    cond (ltb (card .0) (cardsOf ws))
+    (cond (ltb (takenOf ws (card .0)) (madeOf ws))
+    (roomAnswer ws (card .0) (takenOf ws (card .0) + 1) (nextThere ws (card .0)))
+    NoBroadcast)
+    NoCard
+
+-- the new words where the step is done, else the old
+unfoldable pub takeMemory : List ℕ → Card → List ℕ
+takeMemory ws card =
+    cond (isDone (takeAnswer ws card))
+    (joined ws (card .0) (takenOf ws (card .0) + 1) (nextLetter ws (card .0)) (nextThere ws (card .0)))
+    ws

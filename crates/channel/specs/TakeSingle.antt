@@ -1,0 +1,68 @@
+-- Step 8: "the named task's message in flight reaches its destination. A tag at most the number taken there joins the inbox; a larger one
+-- is held."
+use Prim.Native.Nat.{ℕ, zero, suc, _+_, _*_}
+use mathlib.Core.Bool.{Bool, true, false, cond}
+use mathlib.Core.List.{List}
+use lib.Dec.{eqb, ltb, leb}
+use lib.ListN.{getD, set}
+use Rattle.names.specs.declared.Task.{Task}
+use Rattle.channel.specs.declared.Letter.{Letter}
+use Rattle.channel.specs.declared.Answer.{Answer}
+use Rattle.channel.specs.declared.Answer.the-variants.{Done, IllSized, NoTask, NoneInFlight}
+use Rattle.channel.specs.Answers.{isDone}
+use Rattle.channel.specs.Layout.{heldWord, tasksOf, takenOf, countOf, heldCountOf, heldBlock, flightBlock}
+use Rattle.channel.specs.Letters.{letterAt, kindAt, tagAt, stored, single, soleOf}
+use Rattle.channel.specs.Inbox.{pushed}
+
+-- task t has nothing in flight
+unfoldable pub noFlight : List ℕ → ℕ → Bool
+noFlight ws t = eqb (kindAt ws (flightBlock t)) 0
+
+abbrev pub flightLetter : List ℕ → ℕ → Letter
+flightLetter ws t = letterAt ws (flightBlock t)
+
+abbrev pub flightTag : List ℕ → ℕ → ℕ
+flightTag ws t = tagAt ws (flightBlock t)
+
+-- the card that it goes to
+abbrev pub flightTo : List ℕ → ℕ → ℕ
+flightTo ws t = soleOf (flightLetter ws t .to)
+
+-- whether a message with this tag joins the inbox of card i, and is not held
+unfoldable pub joinsAt : List ℕ → ℕ → ℕ → Bool
+joinsAt ws i tag = leb tag (takenOf ws i)
+
+-- one letter more among those held for card i, where there is room
+unfoldable pub heldMore : List ℕ → ℕ → Letter → ℕ → List ℕ
+heldMore ws i l tag =
+    cond (ltb (heldCountOf ws i) 16)
+    (set (stored ws (heldBlock i (heldCountOf ws i)) l tag) (heldWord i) (heldCountOf ws i + 1))
+    ws
+
+-- task t's message in flight reaches card i
+unfoldable pub landed : List ℕ → ℕ → ℕ → Letter → ℕ → Bool → List ℕ
+landed ws t i l tag joins =
+    let us : List ℕ = set ws (flightBlock t * 8) 0 in
+    cond joins (pushed us i l) (heldMore us i l tag)
+
+-- 6 "an inbox 48, and at most 16 messages are held"
+unfoldable pub landAnswer : List ℕ → ℕ → Bool → Answer
+landAnswer ws i joins = cond joins (cond (leb 48 (countOf ws i)) IllSized Done) (cond (leb 16 (heldCountOf ws i)) IllSized Done)
+
+-- 12 an absent task; 32 "nothing of that task in flight"; 6 also where the slot's message has not one destination
+unfoldable pub singleAnswer : List ℕ → Task → Answer
+singleAnswer ws task =
+    cond (ltb (task .0) (tasksOf ws))
+    (cond (noFlight ws (task .0)) NoneInFlight
+    (cond (single (flightLetter ws (task .0) .to))
+    (landAnswer ws (flightTo ws (task .0)) (joinsAt ws (flightTo ws (task .0)) (flightTag ws (task .0))))
+    IllSized))
+    NoTask
+
+-- the new words where the step is done, else the old
+unfoldable pub singleMemory : List ℕ → Task → List ℕ
+singleMemory ws task =
+    cond (isDone (singleAnswer ws task))
+    (landed ws (task .0) (flightTo ws (task .0)) (flightLetter ws (task .0)) (flightTag ws (task .0))
+    (joinsAt ws (flightTo ws (task .0)) (flightTag ws (task .0))))
+    ws

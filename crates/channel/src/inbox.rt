@@ -1,0 +1,64 @@
+// A card's inbox: a ring of 48 blocks.
+ghost use mathlib.Core.Path.{_≡_};
+ghost use Prim.Native.Nat.{_<_, _≤_};
+ghost use Rattle.channel.specs.Inbox.{pushed, popped, gotOf, receiveAnswer, receiveMemory};
+use super::layout::BLOCKS;
+use super::layout::COUNT;
+use super::layout::FIRST;
+use super::layout::HEAD;
+use super::layout::INBOX;
+use super::layout::PART;
+use super::layout::cards;
+use super::letters::load;
+use super::letters::store;
+use crate::Letter;
+use crate::Received;
+use names::BroadcastNumber;
+use names::Card;
+
+// One letter more at the end of a card's inbox; nothing changes where there is no room.
+pub(crate) fn push(memory: &mut [u32; 4808], i: usize, letter: Letter)
+    requires { ⌜ i < 8 ⌝ }
+    ensures { λ _. ⌜ now (memory .exit) ≡ pushed (now (memory .entry)) i letter ⌝ }
+{
+    let at = FIRST + i * PART;
+    let head = memory[at + HEAD];
+    let count = memory[at + COUNT];
+    if 48 <= count {
+        return;
+    }
+    let block = INBOX + i * BLOCKS + ((head % 48 + count) % 48) as usize;
+    store(memory, block, letter, BroadcastNumber(0));
+    memory[at + COUNT] = count + 1;
+}
+
+// The first letter of a card's inbox leaves it.
+fn pop(memory: &mut [u32; 4808], i: usize) -> Received
+    requires { ⌜ i < 8 ⌝ }
+    ensures left { λ _. ⌜ now (memory .exit) ≡ popped (now (memory .entry)) i ⌝ }
+    ensures got { λ r. ⌜ r ≡ gotOf (now (memory .entry)) i ⌝ }
+{
+    let at = FIRST + i * PART;
+    let head = memory[at + HEAD];
+    let count = memory[at + COUNT];
+    if count == 0 {
+        return Received::Empty;
+    }
+    let first = head % 48;
+    let letter = load(memory, INBOX + i * BLOCKS + first as usize);
+    memory[at + HEAD] = (first + 1) % 48;
+    memory[at + COUNT] = count - 1;
+    let message = letter.message;
+    Received::Got(message)
+}
+
+// The channel's part of step 9: the head of the card's inbox leaves it.
+pub fn receive(memory: &mut [u32; 4808], card: Card) -> Received
+    ensures memory { λ _. ⌜ now (memory .exit) ≡ receiveMemory (now (memory .entry)) card ⌝ }
+    ensures answer { λ r. ⌜ r ≡ receiveAnswer (now (memory .entry)) card ⌝ }
+{
+    if cards(memory) <= card.0 {
+        return Received::NoSuchCard;
+    }
+    pop(memory, card.0 as usize)
+}
