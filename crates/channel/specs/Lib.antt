@@ -11,3 +11,4 @@ pub mod TakeBroadcast
 pub mod TakeSingle
 pub mod Dispatch
 pub mod Sized
+pub mod Shows

@@ -1,0 +1,10 @@
+pub mod Blocks
+pub mod View
+pub mod Tags
+pub mod Release
+pub mod Facts
+pub mod Frame
+pub mod Answering
+pub mod Receiving
+pub mod Taking
+pub mod TakeBroadcastLaw
