@@ -15,7 +15,7 @@ use Rattle.channel.specs.TakeSingle.{noFlight}
 use Rattle.channel.specs.Shows.{inboxOf, heldOf, flightOf, Shows}
 use Rattle.channel.proofs.Blocks.{letter-cong}
 use Rattle.channel.proofs.View.{tagged-cong, held-cong, ring-cong}
-use Rattle.channel.proofs.Facts.{Sized, cards-most, cards-words, tasks-words}
+use Rattle.channel.proofs.Facts.{cards-most, cards-words, tasks-words}
 
 -- card j's part
 module _ (us ws : List ℕ) (j : ℕ) (e : (a : ℕ) → takenWord j ≤ a → a < takenWord (j + 1) → getD us a 0 ≡ getD ws a 0) where
@@ -55,7 +55,7 @@ outside-word i us ws o j a n p q = go (decLt j i)
     go (no g) = o .high a (omega arith)
 
 -- only card i's part of the words and of the state changed
-pub card-shows : (ws us : List ℕ) (w x : ChannelState Letter) (i : ℕ) → i < cardsOf ws → Sized ws → Shows ws w → Outside i us ws
+pub card-shows : (ws us : List ℕ) (w x : ChannelState Letter) (i : ℕ) → i < cardsOf ws → ((j : ℕ) → j < cardsOf ws → heldCountOf ws j ≤ 16) → Shows ws w → Outside i us ws
     → x .sent ≡ w .sent → ((t : ℕ) → x .flight t ≡ w .flight t)
     → ((j : ℕ) → j ≢ i → (x .taken j ≡ w .taken j) × (x .held j ≡ w .held j) × (x .inbox j ≡ w .inbox j))
     → x .taken i ≡ takenOf us i → x .held i ≡ heldOf us i → x .inbox i ≡ inboxOf us i → Shows us x
@@ -71,7 +71,7 @@ card-shows ws us w x i card z v o s f g t h b =
           (λ q. g j q .0 ∙ v .taken= j (rw (← c0) c) ∙ sym (outside-word i us ws o j (takenWord j) q (omega arith) (omega arith)));
       flight= = λ k p. f k ∙ v .flight= k (rw (← t0) p) ∙ sym (flight-words us ws k (λ a m n. o .high a (omega arith)));
       held= = λ j c. either j (λ k. x .held k ≡ heldOf us k) h
-          (λ q. g j q .1 ∙ v .held= j (rw (← c0) c) ∙ sym (held-words us ws j (λ a m n. outside-word i us ws o j a q m n) (z .helds j (rw (← c0) c))));
+          (λ q. g j q .1 ∙ v .held= j (rw (← c0) c) ∙ sym (held-words us ws j (λ a m n. outside-word i us ws o j a q m n) (z j (rw (← c0) c))));
       inbox= = λ j c. either j (λ k. x .inbox k ≡ inboxOf us k) b
           (λ q. g j q .2 ∙ v .inbox= j (rw (← c0) c) ∙ sym (inbox-words us ws j (λ a m n. outside-word i us ws o j a q m n)));
     }

@@ -8,3 +8,8 @@ pub mod Answering
 pub mod Receiving
 pub mod Taking
 pub mod TakeBroadcastLaw
+pub mod HeldMore
+pub mod Landing
+pub mod TakeSingleLaw
+pub mod Sending
+pub mod DispatchLaw

@@ -43,7 +43,7 @@ module _ (ws : List ℕ) (w : ChannelState Letter) (z : Sized ws) (v : Shows ws 
         let p = popped-word ws i (z .long) c8 n e in
         let m : heldCountOf ws i ≤ 16 = z .helds i card in
         let y : eqb i i ≡ true = eqb-refl i in
-        card-shows ws (popped ws i) w (delivering letterMail w i) i card z v (popped-outside ws i n (z .long) c8 e)
+        card-shows ws (popped ws i) w (delivering letterMail w i) i card (z .helds) v (popped-outside ws i n (z .long) c8 e)
         refl (λ t. refl)
         (λ j q. (refl, refl, rw (eqb-not q)))
         (v .taken= i card ∙ sym (p (takenWord i) (omega arith) (omega arith)))

@@ -134,7 +134,7 @@ module _ (ws : List ℕ) (w : ChannelState Letter) (z : Sized ws) (v : Shows ws 
       let j = joined-shows ws i n l c8 (z .long) (z .helds i card) (nextThere ws i) room in
       let e : suc (w .taken i) ≡ n = ap suc (v .taken= i card) ∙ sym (add-one (takenOf ws i)) in
       let y : eqb i i ≡ true = eqb-refl i in
-      card-shows ws (joined ws i n l (nextThere ws i)) w (taking letterMail w i (some l)) i card z v (j .out)
+      card-shows ws (joined ws i n l (nextThere ws i)) w (taking letterMail w i (some l)) i card (z .helds) v (j .out)
       refl (λ t. refl)
       (λ k q. (rw (eqb-not q), rw (eqb-not q), rw (eqb-not q)))
       (rw y (e ∙ sym (j .taken)))

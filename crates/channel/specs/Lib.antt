@@ -12,3 +12,4 @@ pub mod TakeSingle
 pub mod Dispatch
 pub mod Sized
 pub mod Shows
+pub mod Calls
