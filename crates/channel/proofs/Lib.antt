@@ -13,3 +13,13 @@ pub mod Landing
 pub mod TakeSingleLaw
 pub mod Sending
 pub mod DispatchLaw
+pub mod Destinations
+pub mod Fitting
+pub mod FitMoves
+pub mod FitRelease
+pub mod FitSized
+pub mod ReceiveKeeps
+pub mod TakeBroadcastKeeps
+pub mod TakeSingleKeeps
+pub mod DispatchKeeps
+pub mod BeginLaw

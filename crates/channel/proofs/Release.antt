@@ -63,18 +63,18 @@ module _ (ws : List ℕ) (i m : ℕ) (l : Letter) (t : ℕ) (card : i < 8) (plac
 
 module _ (ws : List ℕ) (i n : ℕ) (card : i < 8) (k : ℕ) (s : Sweep) (h : k < 16)
     (room : countOf ws i + length (released n (heldFirst ws i (suc k))) ≤ 48) (v : Swept ws i n card k s) where
-  abbrev x : Tagged Letter
+  abbrev pub x : Tagged Letter
   x = taggedAt ws (heldBlock i k)
 
-  abbrev y : Tagged Letter
+  abbrev pub y : Tagged Letter
   y = taggedAt (s .words) (heldBlock i k)
 
-  at-k : y ≡ x
+  pub at-k : y ≡ x
   at-k = v .rest k (omega arith) h
 
   -- it waits for n: it joins the inbox
   module _ (e : eqb (y .mark) n ≡ true) where
-    joins-is : swept i n k s ≡ record { words = pushed (s .words) i (y .msg); kept = s .kept }
+    pub joins-is : swept i n k s ≡ record { words = pushed (s .words) i (y .msg); kept = s .kept }
     unfolding swept sweptWords sweptKept
     joins-is = rw e
 
@@ -92,30 +92,30 @@ module _ (ws : List ℕ) (i n : ℕ) (card : i < 8) (k : ℕ) (s : Sweep) (h : k
     longer : length (released n (heldFirst ws i (suc k))) ≡ length (released n (heldFirst ws i k)) + 1
     longer = rw (more, length-append)
 
-    fits : countOf (s .words) i < 48
-    fits = omega (arith, longer, v .count)
+    pub space : countOf (s .words) i < 48
+    space = omega (arith, longer, v .count)
 
     word : (a : ℕ) → a ≢ countWord i → ((q : ℕ) → q < 8 → a ≢ (placeOf (s .words) i (countOf (s .words) i)) * 8 + q)
         → getD (pushed (s .words) i (y .msg)) a 0 ≡ getD (s .words) a 0
-    word = pushed-word (s .words) i (y .msg) (v .long) card fits
+    word = pushed-word (s .words) i (y .msg) (v .long) card space
 
     joins : Swept ws i n card (suc k) (swept i n k s)
     joins = rw joins-is (record {
-      long = pushed-long (s .words) i (y .msg) (v .long) card fits;
+      long = pushed-long (s .words) i (y .msg) (v .long) card space;
       few = omega (arith, v .few);
-      stay = push-held (s .words) i (y .msg) (v .long) card fits (s .kept) (omega (arith, v .few)) ∙ v .stay ∙ sym no-more;
+      stay = push-held (s .words) i (y .msg) (v .long) card space (s .kept) (omega (arith, v .few)) ∙ v .stay ∙ sym no-more;
       rest = λ m p q. tagged-cong (pushed (s .words) i (y .msg)) (s .words) (heldBlock i m) (λ a g. word _ (omega arith) (λ b r. omega arith)) ∙ v .rest m (omega arith) q;
       inbox =
-          push-appends (s .words) i (y .msg) (v .long) card fits ∙ ap₂ (λ a b. a ++ (b ∷ [])) (v .inbox) (ap (λ (z : Tagged Letter). z .msg) at-k)
+          push-appends (s .words) i (y .msg) (v .long) card space ∙ ap₂ (λ a b. a ++ (b ∷ [])) (v .inbox) (ap (λ (z : Tagged Letter). z .msg) at-k)
           ∙ append-assoc (inboxOf ws i) _ _ ∙ ap (inboxOf ws i ++_) (sym more);
-      count = omega (arith, pushed-count (s .words) i (y .msg) (v .long) card fits, v .count, longer);
+      count = omega (arith, pushed-count (s .words) i (y .msg) (v .long) card space, v .count, longer);
       low = λ a p q. word a q (λ b r. omega arith) ∙ v .low a p q;
       high = λ a p. word a (omega arith) (λ b r. omega arith) ∙ v .high a p;
     })
 
   -- it waits on: it moves down
   module _ (e : eqb (y .mark) n ≡ false) where
-    stays-is : swept i n k s ≡ record { words = stored (s .words) (heldBlock i (s .kept)) (y .msg) (y .mark); kept = s .kept + 1 }
+    pub stays-is : swept i n k s ≡ record { words = stored (s .words) (heldBlock i (s .kept)) (y .msg) (y .mark); kept = s .kept + 1 }
     unfolding swept sweptWords sweptKept
     stays-is = rw e
 
@@ -169,7 +169,7 @@ module _ (ws : List ℕ) (i n : ℕ) (card : i < 8) (k : ℕ) (s : Sweep) (h : k
       go true e = joins e
       go false e = stays e
 
-sweeps-swept : (ws : List ℕ) (i n : ℕ) (card : i < 8) → length ws ≡ 4808 → (k j : ℕ) → k + j ≤ 16
+pub sweeps-swept : (ws : List ℕ) (i n : ℕ) (card : i < 8) → length ws ≡ 4808 → (k j : ℕ) → k + j ≤ 16
     → countOf ws i + length (released n (heldFirst ws i (k + j))) ≤ 48 → Swept ws i n card k (sweeps i n k ws)
 unfolding sweeps turns listing
 sweeps-swept ws i n card long zero j h room = record {
@@ -191,14 +191,14 @@ sweeps-swept ws i n card long (suc k) j h room =
 
 module _ (ws : List ℕ) (i n : ℕ) (card : i < 8) (long : length ws ≡ 4808) (few : heldCountOf ws i ≤ 16)
     (room : countOf ws i + length (released n (heldOf ws i)) ≤ 48) where
-  abbrev end : Sweep
+  abbrev pub end : Sweep
   end = sweeps i n (heldCountOf ws i) ws
 
-  swept-all : Swept ws i n card (heldCountOf ws i) end
+  pub swept-all : Swept ws i n card (heldCountOf ws i) end
   unfolding heldOf
   swept-all = let e : heldCountOf ws i + 0 ≡ heldCountOf ws i = omega arith in sweeps-swept ws i n card long (heldCountOf ws i) 0 (omega arith) (rw e room)
 
-  released-is : releasedWords ws i n ≡ set (end .words) (heldWord i) (end .kept)
+  pub released-is : releasedWords ws i n ≡ set (end .words) (heldWord i) (end .kept)
   unfolding releasedWords
   released-is = let e : min (heldCountOf ws i) 16 ≡ heldCountOf ws i = omega arith in rw e
 

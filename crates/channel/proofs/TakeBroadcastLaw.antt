@@ -55,7 +55,7 @@ nth-past [] k h = refl
 nth-past (a ∷ s) zero h = absurd (omega arith)
 nth-past (a ∷ s) (suc k) h = nth-past s k (omega arith)
 
-push-length : (t : Bool) (l : Letter) (s : List Letter) → length (push t l s) ≡ length s + cond t 1 0
+pub push-length : (t : Bool) (l : Letter) (s : List Letter) → length (push t l s) ≡ length s + cond t 1 0
 push-length true l s = length-append s (l ∷ [])
 push-length false l s = omega arith
 
@@ -100,6 +100,21 @@ room-done ws i n false h e =
     let b = passed (ltb 48 (countOf ws i + releasableOf ws i n)) IllSized Done refl e in
     omega (arith, ltb-false 48 (countOf ws i + releasableOf ws i n) (b .0))
 
+-- what a done call knew
+pub record Took (ws : List ℕ) (card : Card) : Type 0 where
+  pub there : card .0 < cardsOf ws
+  pub more : takenOf ws (card .0) < madeOf ws
+  pub room : countOf ws (card .0) + length (released (takenOf ws (card .0) + 1) (heldOf ws (card .0))) + cond (nextThere ws (card .0)) 1 0 ≤ 48
+
+pub took : (ws : List ℕ) → Sized ws → (card : Card) → isDone (takeAnswer ws card) ≡ true → Took ws card
+unfolding takeAnswer isDone
+took ws z card e =
+    let i : ℕ = card .0 in
+    let a = picked (ltb i (cardsOf ws)) _ NoCard refl e in
+    let b = picked (ltb (takenOf ws i) (madeOf ws)) _ NoBroadcast refl (a .1) in
+    let c = ltb-true i (cardsOf ws) (a .0) in
+    record { there = c; more = ltb-true _ _ (b .0); room = room-done ws i (takenOf ws i + 1) (nextThere ws i) (z .helds i c) (b .1) }
+
 module _ (ws : List ℕ) (w : ChannelState Letter) (z : Sized ws) (v : Shows ws w) (card : Card) where
   abbrev i : ℕ
   i = card .0
@@ -123,23 +138,9 @@ module _ (ws : List ℕ) (w : ChannelState Letter) (z : Sized ws) (v : Shows ws 
       go true e = here (ltb-true i (cardsOf ws) e) (ltb (takenOf ws i) (madeOf ws)) refl
       go false e = refl
 
-  -- what a done call knew
-  pub record Took : Type 0 where
-    pub there : i < cardsOf ws
-    pub more : takenOf ws i < madeOf ws
-    pub room : countOf ws i + length (released (takenOf ws i + 1) (heldOf ws i)) + cond (nextThere ws i) 1 0 ≤ 48
-
-  pub took : isDone (takeAnswer ws card) ≡ true → Took
-  unfolding takeAnswer isDone
-  took e =
-      let a = picked (ltb i (cardsOf ws)) _ NoCard refl e in
-      let b = picked (ltb (takenOf ws i) (madeOf ws)) _ NoBroadcast refl (a .1) in
-      let c = ltb-true i (cardsOf ws) (a .0) in
-      record { there = c; more = ltb-true _ _ (b .0); room = room-done ws i (takenOf ws i + 1) (nextThere ws i) (z .helds i c) (b .1) }
-
   pub take-left : Shows (takeMemory ws card)
       (cond (eqb (cond (ltb i (cardsOf ws)) (takeRefusal letterMail (cardsOf ws) w i (nth (w .sent) (w .taken i))) 14) 0) (taking letterMail w i (nth (w .sent) (w .taken i))) w)
   unfolding takeMemory
   take-left =
       settle ws _ w _ (takeAnswer ws card) _ take-number v
-      (λ e. let t = took e in rw (next-is ws w z v i (t .there) (t .more)) (take-shows ws w z v i (t .there) (t .more) (t .room)))
+      (λ e. let t = took ws z card e in rw (next-is ws w z v i (t .there) (t .more)) (take-shows ws w z v i (t .there) (t .more) (t .room)))

@@ -22,6 +22,28 @@ use Rattle.channel.proofs.Answering.{full, picked, passed, settle}
 use Rattle.channel.proofs.Landing.{land-shows}
 use Rattle.channel.proofs.TakeBroadcastLaw.{inbox-length, held-length}
 
+-- what a done call knew
+pub record Landed (ws : List ℕ) (t : ℕ) : Type 0 where
+  pub present : t < tasksOf ws
+  pub flying : noFlight ws t ≡ false
+  pub room-in : cond (joinsAt ws (flightTo ws t) (flightTag ws t)) (countOf ws (flightTo ws t)) 0 < 48
+  pub room-held : cond (joinsAt ws (flightTo ws t) (flightTag ws t)) 0 (heldCountOf ws (flightTo ws t)) < 16
+
+pub landed-knew : (ws : List ℕ) (task : Task) → isDone (singleAnswer ws task) ≡ true → Landed ws (task .0)
+unfolding singleAnswer landAnswer isDone
+landed-knew ws task e =
+    let t : ℕ = task .0 in
+    let a = picked (ltb t (tasksOf ws)) _ NoTask refl e in
+    let b = passed (noFlight ws t) NoneInFlight _ refl (a .1) in
+    let c = picked (single (flightLetter ws t .to)) _ IllSized refl (b .1) in
+    let r = room (flightTo ws t) (joinsAt ws (flightTo ws t) (flightTag ws t)) (c .1) in
+    record { present = ltb-true t (tasksOf ws) (a .0); flying = b .0; room-in = r .0; room-held = r .1 }
+  where
+    room : (i : ℕ) (b : Bool) → isDone (cond b (cond (leb 48 (countOf ws i)) IllSized Done) (cond (leb 16 (heldCountOf ws i)) IllSized Done)) ≡ true
+        → (cond b (countOf ws i) 0 < 48) × (cond b 0 (heldCountOf ws i) < 16)
+    room i true q = (leb-false 48 (countOf ws i) (passed (leb 48 (countOf ws i)) IllSized Done refl q .0), omega arith)
+    room i false q = (omega arith, leb-false 16 (heldCountOf ws i) (passed (leb 16 (heldCountOf ws i)) IllSized Done refl q .0))
+
 module _ (ws : List ℕ) (w : ChannelState Letter) (z : Sized ws) (v : Shows ws w) (task : Task) where
   abbrev t : ℕ
   t = task .0
@@ -72,31 +94,10 @@ module _ (ws : List ℕ) (w : ChannelState Letter) (z : Sized ws) (v : Shows ws 
       go true e = here (ltb-true t (tasksOf ws) e) (noFlight ws t) refl
       go false e = refl
 
-  -- what a done call knew
-  pub record Landed : Type 0 where
-    pub present : t < tasksOf ws
-    pub flying : noFlight ws t ≡ false
-    pub room-in : cond (joinsAt ws i (flightTag ws t)) (countOf ws i) 0 < 48
-    pub room-held : cond (joinsAt ws i (flightTag ws t)) 0 (heldCountOf ws i) < 16
-
-  pub landed-knew : isDone (singleAnswer ws task) ≡ true → Landed
-  unfolding singleAnswer landAnswer isDone
-  landed-knew e =
-      let a = picked (ltb t (tasksOf ws)) _ NoTask refl e in
-      let b = passed (noFlight ws t) NoneInFlight _ refl (a .1) in
-      let c = picked (single (flightLetter ws t .to)) _ IllSized refl (b .1) in
-      let r = room (joinsAt ws i (flightTag ws t)) (c .1) in
-      record { present = ltb-true t (tasksOf ws) (a .0); flying = b .0; room-in = r .0; room-held = r .1 }
-    where
-      room : (b : Bool) → isDone (cond b (cond (leb 48 (countOf ws i)) IllSized Done) (cond (leb 16 (heldCountOf ws i)) IllSized Done)) ≡ true
-          → (cond b (countOf ws i) 0 < 48) × (cond b 0 (heldCountOf ws i) < 16)
-      room true q = (leb-false 48 (countOf ws i) (passed (leb 48 (countOf ws i)) IllSized Done refl q .0), omega arith)
-      room false q = (omega arith, leb-false 16 (heldCountOf ws i) (passed (leb 16 (heldCountOf ws i)) IllSized Done refl q .0))
-
   pub single-left : Shows (singleMemory ws task)
       (cond (eqb (cond (ltb t (tasksOf ws)) (singleRefusal letterMail (cardsOf ws) w (w .flight t)) 12) 0) (arriving letterMail w t (w .flight t)) w)
   unfolding singleMemory
   single-left =
       settle ws _ w _ (singleAnswer ws task) _ single-number v
-      (λ e. let k = landed-knew e in let c = z .flights t (k .present) (k .flying) .1 in
+      (λ e. let k = landed-knew ws task e in let c = z .flights t (k .present) (k .flying) .1 in
       rw (flies (k .present) (k .flying), ← joins-is c) (land-shows ws w z v t (k .present) c (joinsAt ws i (flightTag ws t)) (k .room-in) (k .room-held)))

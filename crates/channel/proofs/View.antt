@@ -34,10 +34,10 @@ ring-cong us ws i h n e = listing-cong _ _ n (λ k g. letter-cong us ws _ (λ a 
 -- ---- push
 
 module _ (ws : List ℕ) (i : ℕ) (l : Letter) (long : length ws ≡ 4808) (card : i < 8) (room : countOf ws i < 48) where
-  abbrev last : ℕ
+  abbrev pub last : ℕ
   last = placeOf ws i (countOf ws i)
 
-  pushed-is : pushed ws i l ≡ set (stored ws last l 0) (countWord i) (countOf ws i + 1)
+  pub pushed-is : pushed ws i l ≡ set (stored ws last l 0) (countWord i) (countOf ws i + 1)
   unfolding pushed
   pushed-is = rw (lt-ltb (countOf ws i) 48 room)
 
@@ -54,11 +54,11 @@ module _ (ws : List ℕ) (i : ℕ) (l : Letter) (long : length ws ≡ 4808) (car
   pub pushed-head : headOf (pushed ws i l) i ≡ headOf ws i
   pushed-head = pushed-word (headWord i) (omega arith) (λ k g. omega arith)
 
-  pushed-last : letterAt (pushed ws i l) last ≡ l
-  pushed-last =
-      rw pushed-is
-      (letter-cong _ (stored ws last l 0) last (λ k g. getD-set-other (stored ws last l 0) (countWord i) (last * 8 + k) (countOf ws i + 1) 0 (omega arith))
-      ∙ letter-same ws last l 0 (omega arith))
+  pub pushed-block : (k : ℕ) → k < 8 → getD (pushed ws i l) (last * 8 + k) 0 ≡ getD (stored ws last l 0) (last * 8 + k) 0
+  pushed-block k g = rw pushed-is (getD-set-other (stored ws last l 0) (countWord i) (last * 8 + k) (countOf ws i + 1) 0 (omega arith))
+
+  pub pushed-last : letterAt (pushed ws i l) last ≡ l
+  pushed-last = letter-cong (pushed ws i l) (stored ws last l 0) last pushed-block ∙ letter-same ws last l 0 (omega arith)
 
   -- another block of the inbox
   pushed-apart : (k : ℕ) → k < countOf ws i

@@ -10,3 +10,4 @@ pub mod Filters
 pub mod Keys
 pub mod Sorting
 pub mod Counts
+pub mod Conjunctions
