@@ -22,7 +22,7 @@ use Rattle.channel.specs.Answers.{answerNumber, isDone}
 use Rattle.channel.specs.TakeSingle.{noFlight}
 use Rattle.channel.specs.Dispatch.{nearAt, near, castAnswer, castMemory, flyAnswer, flyMemory, letterOf, dispatchAnswer, dispatchMemory}
 use Rattle.channel.specs.Shows.{letterMail, taggedAt, flightOf, Shows}
-use Rattle.channel.specs.Calls.{orElse}
+use Rattle.channel.specs.MemoryCalls.{orElse}
 use Rattle.channel.proofs.Facts.{Sized}
 use Rattle.channel.proofs.Answering.{picked, settle}
 use Rattle.channel.proofs.Sending.{fly-shows, cast-shows}

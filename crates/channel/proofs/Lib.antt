@@ -18,8 +18,8 @@ pub mod Fitting
 pub mod FitMoves
 pub mod FitRelease
 pub mod FitSized
-pub mod ReceiveKeeps
-pub mod TakeBroadcastKeeps
-pub mod TakeSingleKeeps
-pub mod DispatchKeeps
+pub mod SizedReceive
+pub mod SizedTakeBroadcast
+pub mod SizedTakeSingle
+pub mod SizedDispatch
 pub mod BeginLaw

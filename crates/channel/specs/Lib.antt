@@ -12,4 +12,4 @@ pub mod TakeSingle
 pub mod Dispatch
 pub mod Sized
 pub mod Shows
-pub mod Calls
+pub mod MemoryCalls
