@@ -3,8 +3,7 @@ use Prim.Native.Nat.{ℕ, suc, zero}
 use mathlib.Core.Bool.{Bool, cond, _&&_}
 use mathlib.Core.List.{List}
 use lib.Dec.{leb}
-use lib.ListN.{set}
-use Rattle.lists.specs.Listings.{listing}
+use lib.ListN.{replicate, set}
 use Rattle.channel.specs.declared.Answer.{Answer}
 use Rattle.channel.specs.declared.Answer.the-variants.{Done, BadSize}
 use Rattle.channel.specs.Layout.{cardsWord, tasksWord, registersWord}
@@ -15,7 +14,7 @@ sizesFit cards tasks registers = leb 1 cards && leb cards 8 && leb 1 tasks && le
 
 -- every word zero but the sizes
 unfoldable pub begun : ℕ → ℕ → ℕ → List ℕ
-begun cards tasks registers = set (set (set (listing (λ k. 0) 4808) cardsWord cards) tasksWord tasks) registersWord registers
+begun cards tasks registers = set (set (set (replicate 4808 0) cardsWord cards) tasksWord tasks) registersWord registers
 
 -- 3 "a size out of range"
 unfoldable pub beginAnswer : ℕ → ℕ → ℕ → Answer

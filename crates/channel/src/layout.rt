@@ -123,11 +123,7 @@ pub fn begin(memory: &mut [u32; 4808], cards: u32, tasks: u32, registers: u32) -
     if !sizes_fit(cards, tasks, registers) {
         return Answer::BadSize;
     }
-    let mut k: usize = 0;
-    while k < 4808 {
-        memory[k] = 0;
-        k += 1;
-    }
+    *memory = [0; 4808];
     memory[CARDS] = cards;
     memory[TASKS] = tasks;
     memory[REGISTERS] = registers;

@@ -138,7 +138,12 @@ fn known(body: Body) -> bool
 {
     match body {
         Body::ReadDo => true,
-        Body::UpdateDo(f, _) => 1 <= f && f <= 4,
+        Body::UpdateDo(f, _) => {
+            if f < 1 {
+                return false;
+            }
+            f <= 4
+        }
         Body::ReadReply(_) => true,
         Body::UpdateReply => true,
     }

@@ -1,0 +1,85 @@
+use Rattle.channel.specs.TakeBroadcast.{sweptKept, sweptWords}
+use Rattle.lists.specs.Tests.{cases}
+use borrow.Author.Tests.{eq-eqb, ne-eqb}
+use native.Mathlib.Omega.{arith}
+use borrow.Author.Needs.{needs}
+use Rattle.channel.proofs.broadcast.sweep.Statement.{statement}
+use Rattle.channel.proofs.broadcast.sweep.Tie as tie
+use Rattle.channel.proofs.broadcast.sweep.Reads as reads
+use Rattle.channel.proofs.broadcast.sweep.Lts as lts
+use Rattle.channel.proofs.inbox.push.Reads as push-reads
+use Rattle.channel.proofs.letters.load.Reads as load-reads
+use Rattle.channel.proofs.letters.store.Reads as store-reads
+
+mul-block : tie.Need-mul-block
+mul-block c = search needs
+
+add-block : tie.Need-add-block
+add-block c = search needs
+
+add-block-2 : tie.Need-add-block-2
+add-block-2 c = search needs
+
+load-requires : tie.Need-load-requires
+load-requires c κs = search needs
+
+mul-tag : tie.Need-mul-tag
+mul-tag c = search needs
+
+add-tag : tie.Need-add-tag
+add-tag c = search needs
+
+mul-tag-2 : tie.Need-mul-tag-2
+mul-tag-2 c = search needs
+
+element-copy-out-tag : tie.Need-element-copy-out-tag
+element-copy-out-tag c = search needs
+
+push-requires : tie.Need-push-requires
+push-requires c κs = search needs
+
+returns : tie.Need-returns
+unfolding sweptKept sweptWords
+returns c = let z = eq-eqb _ _ (c .before .before .if1 .taken) in
+    (simp (c .push .ensures, c .before .before .before .before .load .ensures, z), (simp z, omega arith))
+
+mul-store : tie.Need-mul-store
+mul-store c = search needs
+
+add-store : tie.Need-add-store
+add-store c = search needs
+
+add-store-2 : tie.Need-add-store-2
+add-store-2 c = search needs
+
+store-requires : tie.Need-store-requires
+store-requires c κs = search needs
+
+add-result : tie.Need-add-result
+add-result c = search needs
+
+returns-2 : tie.Need-returns-2
+unfolding sweptKept sweptWords
+returns-2 c = let z = ne-eqb _ _ (c .before .before .if1 .left) in
+    (simp (c .store .ensures, c .before .before .before .before .load .ensures, z), (simp z, omega arith))
+
+pub sweep-spec : {M : Type 1} → statement M
+sweep-spec =
+    tie.close
+    (tie.spec
+    mul-block
+    add-block
+    add-block-2
+    load-requires
+    mul-tag
+    add-tag
+    mul-tag-2
+    element-copy-out-tag
+    push-requires
+    returns
+    mul-store
+    add-store
+    add-store-2
+    store-requires
+    add-result
+    returns-2)

@@ -1,0 +1,30 @@
+use borrow.Author.Tests.{lt-ltb, le-ltb}
+use Rattle.channel.specs.Inbox.{receiveAnswer, receiveMemory}
+use Rattle.lists.specs.Tests.{cases}
+use borrow.Author.Needs.{needs}
+use Rattle.channel.proofs.inbox.receive.Statement.{statement}
+use Rattle.channel.proofs.inbox.receive.Tie as tie
+use Rattle.channel.proofs.inbox.receive.Reads as reads
+use Rattle.channel.proofs.inbox.receive.Lts as lts
+use Rattle.channel.proofs.inbox.pop.Reads as pop-reads
+use Rattle.channel.proofs.layout.cards.Reads as cards-reads
+
+cards-requires : tie.Need-cards-requires
+cards-requires c κs = search needs
+
+returns : tie.Need-returns
+unfolding receiveAnswer receiveMemory
+returns c = let z = rw (c .before .before .cards .ensures .0) at (le-ltb _ _ (c .if1 .taken)) in (simp z, simp z)
+
+cast-pop : tie.Need-cast-pop
+cast-pop c = search needs
+
+pop-requires : tie.Need-pop-requires
+pop-requires c κs = search needs
+
+returns-2 : tie.Need-returns-2
+unfolding receiveAnswer receiveMemory
+returns-2 c = let z = rw (c .before .before .before .before .before .cards .ensures .0) at (lt-ltb _ _ (c .before .before .before .if1 .left)) in (simp z (c .pop .ensures .0), simp z (c .pop .ensures .1))
+
+pub receive-spec : {M : Type 1} → statement M
+receive-spec = tie.close (tie.spec cards-requires returns cast-pop pop-requires returns-2)

@@ -1,0 +1,21 @@
+use Rattle.channel.specs.Layout.{registersOf}
+use Rattle.lists.specs.Tests.{cases}
+use borrow.Author.Needs.{needs}
+use Rattle.channel.proofs.layout.registers.Statement.{statement}
+use Rattle.channel.proofs.layout.registers.Tie as tie
+use Rattle.channel.proofs.layout.registers.Reads as reads
+use Rattle.channel.proofs.layout.registers.Lts as lts
+use Rattle.channel.proofs.layout.capped.Reads as capped-reads
+
+element-copy-out-capped : tie.Need-element-copy-out-capped
+element-copy-out-capped c = search needs
+
+capped-requires : tie.Need-capped-requires
+capped-requires c κs = search needs
+
+returns : tie.Need-returns
+unfolding registersOf
+returns c = search (needs, cases)
+
+pub registers-spec : {M : Type 1} → statement M
+registers-spec = tie.close (tie.spec element-copy-out-capped capped-requires returns)

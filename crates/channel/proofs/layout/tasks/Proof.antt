@@ -1,0 +1,21 @@
+use Rattle.channel.specs.Layout.{tasksOf}
+use Rattle.lists.specs.Tests.{cases}
+use borrow.Author.Needs.{needs}
+use Rattle.channel.proofs.layout.tasks.Statement.{statement}
+use Rattle.channel.proofs.layout.tasks.Tie as tie
+use Rattle.channel.proofs.layout.tasks.Reads as reads
+use Rattle.channel.proofs.layout.tasks.Lts as lts
+use Rattle.channel.proofs.layout.capped.Reads as capped-reads
+
+element-copy-out-capped : tie.Need-element-copy-out-capped
+element-copy-out-capped c = search needs
+
+capped-requires : tie.Need-capped-requires
+capped-requires c κs = search needs
+
+returns : tie.Need-returns
+unfolding tasksOf
+returns c = search (needs, cases)
+
+pub tasks-spec : {M : Type 1} → statement M
+tasks-spec = tie.close (tie.spec element-copy-out-capped capped-requires returns)

@@ -1,0 +1,84 @@
+use lib.ListN.{getD}
+use Prim.Native.Nat.{ℕ, _<_, min}
+use Rattle.channel.specs.Letters.{fits}
+use Rattle.channel.specs.Layout.{tasksOf}
+use Rattle.channel.specs.declared.Letter.{Letter}
+use Rattle.lists.specs.Tests.{and-fst}
+use borrow.Author.Tests.{ltb-true, not-true, not-false}
+use native.Mathlib.Omega.{arith}
+use mathlib.Core.Path.{_≡_, sym, _∙_}
+use mathlib.Core.List.{List}
+use mathlib.Core.Bool.{true}
+use Rattle.channel.specs.Answers.{isDone}
+use Rattle.channel.specs.Dispatch.{flyAnswer, flyMemory}
+use Rattle.lists.specs.Tests.{cases}
+use borrow.Author.Tests.{eq-eqb, le-leb, le-ltb, lt-leb, lt-ltb, ne-eqb}
+use borrow.Author.Needs.{needs}
+use Rattle.channel.proofs.send.fly.Statement.{statement}
+use Rattle.channel.proofs.send.fly.Tie as tie
+use Rattle.channel.proofs.send.fly.Reads as reads
+use Rattle.channel.proofs.send.fly.Lts as lts
+use Rattle.channel.proofs.letters.fits.Reads as fits-reads
+use Rattle.channel.proofs.letters.store.Reads as store-reads
+use Rattle.channel.proofs.single.no_flight.Reads as no-flight-reads
+
+-- a letter that fits has a task's number
+fits-task : (ws : List ℕ) (l : Letter) → fits ws l ≡ true → l .message .task .0 < 16
+unfolding fits tasksOf
+fits-task ws l h = let b : l .message .task .0 < min (getD ws 1 0) 16 = ltb-true _ _ (and-fst _ _ (and-fst _ _ (and-fst _ _ (and-fst _ _ h)))) in omega arith
+
+fits-requires : tie.Need-fits-requires
+fits-requires c κs = search needs
+
+returns : tie.Need-returns
+unfolding flyAnswer flyMemory isDone
+returns c = let z = sym (c .before .fits2 .ensures) ∙ not-true _ (c .if1 .taken) in (simp z, simp z)
+
+cast-t : tie.Need-cast-t
+cast-t c = search needs
+
+no-flight-requires : tie.Need-no-flight-requires
+no-flight-requires c κs = let b = fits-task _ _ (sym (c .before .before .before .before .fits2 .ensures) ∙ not-false _ (c .before .before .before .if1 .left)) in search needs
+
+returns-2 : tie.Need-returns-2
+unfolding flyAnswer flyMemory isDone
+returns-2 c = let z = sym (c .before .before .before .before .before .before .fits2 .ensures) ∙ not-false _ (c .before .before .before .before .before .if1 .left) in let y = sym (c .before .no-flight .ensures) ∙ not-true _ (c .if2 .taken) in (simp (z, y), simp (z, y))
+
+mul-tag : tie.Need-mul-tag
+mul-tag c = search needs
+
+add-tag : tie.Need-add-tag
+add-tag c = search needs
+
+mul-tag-2 : tie.Need-mul-tag-2
+mul-tag-2 c = search needs
+
+element-copy-out-tag : tie.Need-element-copy-out-tag
+element-copy-out-tag c = search needs
+
+add-store : tie.Need-add-store
+add-store c = search needs
+
+store-requires : tie.Need-store-requires
+store-requires c κs = let b = fits-task _ _ (sym (c .before .before .before .before .before .before .before .before .fits2 .ensures) ∙ not-false _ (c .before .before .before .before .before .before .before .if1 .left)) in search needs
+
+returns-3 : tie.Need-returns-3
+unfolding flyAnswer flyMemory isDone
+returns-3 c = let z = sym (c .before .before .before .before .before .before .before .before .before .fits2 .ensures) ∙ not-false _ (c .before .before .before .before .before .before .before .before .if1 .left) in let y = sym (c .before .before .before .before .no-flight .ensures) ∙ not-false _ (c .before .before .before .if2 .left) in (simp (z, y, c .store .ensures), simp (z, y))
+
+pub fly-spec : {M : Type 1} → statement M
+fly-spec =
+    tie.close
+    (tie.spec
+    fits-requires
+    returns
+    cast-t
+    no-flight-requires
+    returns-2
+    mul-tag
+    add-tag
+    mul-tag-2
+    element-copy-out-tag
+    add-store
+    store-requires
+    returns-3)
