@@ -2,7 +2,7 @@
 use mathlib.Core.Path.{_≡_, refl, sym}
 use mathlib.Core.Logic.{_⊎_, inl, inr}
 use mathlib.Core.Bool.{Bool, true, false}
-use mathlib.Core.List.{List, [], _∷_, _++_}
+use mathlib.Core.List.{List, [], _∷_, _++_, append-assoc}
 use Rattle.lists.specs.Histories.{here, there, In, any-nil, any-append, any-left, any-right}
 
 module _ {A : Type 0} where
@@ -30,6 +30,10 @@ module _ {A : Type 0} where
 
   pub push-new : {b : Bool} (a : A) (l : List A) → b ≡ true → In a (push b a l)
   push-new a l e = rw e (any-right l (here refl))
+
+  pub push-append : (b : Bool) (a : A) (g l : List A) → push b a (g ++ l) ≡ g ++ push b a l
+  push-append true a g l = append-assoc g l (a ∷ [])
+  push-append false a g l = refl
 
   pub pop-in : (b : Bool) {c : A} (l : List A) → In c (pop b l) → In c l
   pop-in false l h = h

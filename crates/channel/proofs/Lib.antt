@@ -1,0 +1,12 @@
+pub mod Counts
+pub mod InboxHistory
+pub mod Joining
+pub mod Times
+pub mod InboxOrder
+pub mod Sent
+pub mod Rank
+pub mod PromiseParts
+pub mod Distinct
+pub mod KeepsPromise
+pub mod RankOrder
+pub mod PromiseLaws
