@@ -21,7 +21,8 @@ module _ {M : Type 0} {m n : M} where
 
 module _ {M : Type 0} (N : Network M) where
   -- what holds of a step of a run: the step, what it may do, and the run up to it
-  pub flow : {P : Step M → Type 0} {B E : List (Step M)} → ChannelExecution N E → At P B E → (e : Step M) × P e × ChannelPrecondition N B e × ChannelExecution N B
+  pub flow : {P : Step M → Type 0} {B E : List (Step M)} → ChannelExecution N E → At P B E
+      → (e : Step M) × P e × ChannelPrecondition N B e × ChannelExecution N B
   flow v (now p) = (_, p, v .0, v .1)
   flow v (before q) = flow (v .1) q
 
@@ -69,7 +70,8 @@ module _ {M : Type 0} (N : Network M) where
   pub mark-on : (e : Step M) (E : List (Step M)) (m : M) → ¬ Mcasts m e → (chan N (e ∷ E)) .mark m ≡ (chan N E) .mark m
   mark-on (mcast n) E m q = go (N .eqm n m) refl
     where
-      go : (t : Bool) → N .eqm n m ≡ t → cond t (cond (N .mail .multi n) (suc ((chan N E) .made)) ((chan N E) .taken (N .from n))) ((chan N E) .mark m) ≡ (chan N E) .mark m
+      go : (t : Bool) → N .eqm n m ≡ t
+          → cond t (cond (N .mail .multi n) (suc ((chan N E) .made)) ((chan N E) .taken (N .from n))) ((chan N E) .mark m) ≡ (chan N E) .mark m
       go true e = absurd (q (N .eqm-eq n m e))
       go false e = refl
   mark-on (take i n) E m q = refl
@@ -90,17 +92,20 @@ module _ {M : Type 0} (N : Network M) where
   mark-suf {m = m} v (back {e = e} {E = E} s) h = mark-on e E m (mcast-once e E m (v .0) (suf-any s h)) ∙ mark-suf (v .1) s h
 
   -- a broadcast's number is one of those made
-  pub made-now : (e : Step M) (E : List (Step M)) (m : M) → N .mail .multi m ≡ true → Mcasts m e → suc ((chan N E) .made) ≤ (chan N (e ∷ E)) .made
+  pub made-now : (e : Step M) (E : List (Step M)) (m : M) → N .mail .multi m ≡ true → Mcasts m e
+      → suc ((chan N E) .made) ≤ (chan N (e ∷ E)) .made
   made-now (mcast n) E m u p = subst (λ t. suc ((chan N E) .made) ≤ cond t (suc ((chan N E) .made)) ((chan N E) .made)) (sym (ap (N .mail .multi) p ∙ u)) (omega arith)
 
   pub made-at : {B E : List (Step M)} {m : M} → N .mail .multi m ≡ true → At (Mcasts m) B E → suc ((chan N B) .made) ≤ (chan N E) .made
   made-at {m = m} u (now {e = e} {E = E} p) = made-now e E m u p
   made-at u (before {e = e} {E = E} q) = let h = made-at u q in let k = made-on e E in omega arith
 
-  pub number : {B E : List (Step M)} {m : M} → ChannelExecution N E → N .mail .multi m ≡ true → At (Mcasts m) B E → (chan N E) .mark m ≡ suc ((chan N B) .made)
+  pub number : {B E : List (Step M)} {m : M} → ChannelExecution N E → N .mail .multi m ≡ true → At (Mcasts m) B E
+      → (chan N E) .mark m ≡ suc ((chan N B) .made)
   number v u x = mark-at v x ∙ (rw u)
 
-  pub tag : {B E : List (Step M)} {m : M} → ChannelExecution N E → N .mail .multi m ≡ false → At (Mcasts m) B E → (chan N E) .mark m ≡ (chan N B) .taken (N .from m)
+  pub tag : {B E : List (Step M)} {m : M} → ChannelExecution N E → N .mail .multi m ≡ false → At (Mcasts m) B E
+      → (chan N E) .mark m ≡ (chan N B) .taken (N .from m)
   tag v u x = mark-at v x ∙ (rw u)
 
   pub taken-made : (E : List (Step M)) → ChannelExecution N E → (i : ℕ) → (chan N E) .taken i ≤ (chan N E) .made
@@ -108,7 +113,8 @@ module _ {M : Type 0} (N : Network M) where
   taken-made (mcast m ∷ E) v i = let h = taken-made E (v .1) i in let k = made-on (mcast m) E in omega arith
   taken-made (take j m ∷ E) v i = go (eqb i j) refl (taken-made E (v .1) i)
     where
-      go : (t : Bool) → eqb i j ≡ t → (chan N E) .taken i ≤ (chan N E) .made → cond t (suc ((chan N E) .taken i)) ((chan N E) .taken i) ≤ (chan N E) .made
+      go : (t : Bool) → eqb i j ≡ t → (chan N E) .taken i ≤ (chan N E) .made
+          → cond t (suc ((chan N E) .taken i)) ((chan N E) .taken i) ≤ (chan N E) .made
       go true e h =
           let c = any-at (v .0 .1) in
           let n = number (v .1) (v .0 .0) (c .1) in

@@ -1,6 +1,5 @@
 -- No two messages that are multicast have one rank.
 use mathlib.Core.Path.{_≡_, refl, sym, _∙_}
-use mathlib.Core.Logic.{_⊎_, inl, inr}
 use mathlib.Core.Bool.{Bool, true, false}
 use mathlib.Core.List.{List}
 use Prim.Native.Nat.{ℕ, suc, _<_}
@@ -10,7 +9,7 @@ use Rattle.lists.specs.Histories.{Any, At, any-at, at-one}
 use Rattle.lists.specs.Keys.{enc, enc-inj}
 use Rattle.channel.specs.Mail.{Mail}
 use Rattle.channel.specs.Network.{Network}
-use Rattle.channel.specs.Automaton.{Step, mcast, Mcasts, Receives, ChannelExecution}
+use Rattle.channel.specs.Automaton.{Step, Mcasts, Receives, ChannelExecution}
 use Rattle.channel.specs.TotalOrder.{epoch, bound, limit, rank}
 use Rattle.channel.proofs.Counts.{mcast-one, receive-one}
 use Rattle.channel.proofs.Times.{received?, epoch-number}
@@ -40,18 +39,21 @@ module _ {M : Type 0} (N : Network M) (E : List (Step M)) (v : ChannelExecution 
   epoch-limit {i = i} x = let k = epoch-low N E v x in let l = taken-limit N E v i x in omega arith
 
   -- a broadcast and another message differ in the time
-  pub no-time : {m : M} (n : M) (e t : ℕ) → N .mail .multi m ≡ true → rank N E n ≡ enc (bound N E) e (suc t) → suc t < bound N E → rank N E m ≡ rank N E n → ⊥
+  pub no-time : {m : M} (n : M) (e t : ℕ) → N .mail .multi m ≡ true → rank N E n ≡ enc (bound N E) e (suc t) → suc t < bound N E
+      → rank N E m ≡ rank N E n → ⊥
   no-time {m} n e t u r l q = let z = enc-inj (bound N E) (epoch N E m) 0 e (suc t) (omega arith) l (sym (rank-broadcast N E v u) ∙ q ∙ r) .1 in omega arith
 
   -- one received and one waiting differ in the place
-  pub no-place : {m n : M} {i : ℕ} {B C : List (Step M)} → N .mail .multi m ≡ false → At (Receives m i) B E → At (Mcasts n) C E → rank N E n ≡ enc (bound N E) (limit N E) (suc (length C)) → rank N E m ≡ rank N E n → ⊥
+  pub no-place : {m n : M} {i : ℕ} {B C : List (Step M)} → N .mail .multi m ≡ false → At (Receives m i) B E → At (Mcasts n) C E
+      → rank N E n ≡ enc (bound N E) (limit N E) (suc (length C)) → rank N E m ≡ rank N E n → ⊥
   no-place {m} {n} {i} {B} {C} u x y r q =
       let z = enc-inj (bound N E) (epoch N E m) (suc (length B)) (limit N E) (suc (length C)) (time-low N E v x) (time-low N E v y) (sym (rank-received N E v u x) ∙ q ∙ r) .0 in
       let l = epoch-limit x in
       omega arith
 
   -- the same moment is the same message
-  same-message : {P Q : Step M → Type 0} {m n : M} {B C : List (Step M)} → At P B E → At Q C E → suc (length B) ≡ suc (length C) → ((e : Step M) → P e → Q e → m ≡ n) → m ≡ n
+  same-message : {P Q : Step M → Type 0} {m n : M} {B C : List (Step M)} → At P B E → At Q C E → suc (length B) ≡ suc (length C)
+      → ((e : Step M) → P e → Q e → m ≡ n) → m ≡ n
   same-message x y e f = let w = at-one x y (omega arith) in f (w .0) (w .1) (w .2)
 
   pub one-rank : {m n : M} → Form m → Form n → rank N E m ≡ rank N E n → m ≡ n

@@ -71,11 +71,13 @@ module _ {M : Type 0} (N : Network M) where
   receives-gone {m = m} {i} (here {e = e} {E = E} p) = gone-now e E m i p
   receives-gone {m = m} {i} (there {e = e} {E = E} h) = gone-on e E m i (receives-gone h)
 
-  pub receive-can : (e : Step M) (B : List (Step M)) (m : M) (i : ℕ) → Receives m i e → ChannelPrecondition N B e → (r : List M) × ((chan N B) .inbox i ≡ m ∷ r)
+  pub receive-can : (e : Step M) (B : List (Step M)) (m : M) (i : ℕ) → Receives m i e → ChannelPrecondition N B e
+      → (r : List M) × ((chan N B) .inbox i ≡ m ∷ r)
   receive-can (receive n j) B m i p c = (c .0, ap ((chan N B) .inbox) (sym (p .1)) ∙ c .1 ∙ ap (λ a. a ∷ c .0) (p .0))
 
   -- where a message is received, what joined before is gone, and the rest is behind it
-  pub receiving : {B E : List (Step M)} {m : M} {i : ℕ} → ChannelExecution N E → At (Receives m i) B E → (r : List M) × (log B i ≡ gone B i ++ m ∷ r)
+  pub receiving : {B E : List (Step M)} {m : M} {i : ℕ} → ChannelExecution N E → At (Receives m i) B E
+      → (r : List M) × (log B i ≡ gone B i ++ m ∷ r)
   receiving {B} {m = m} {i} v x =
       let f = flow N v x in
       let p = receive-can (f .0) B m i (f .1) (f .2) in

@@ -32,11 +32,13 @@ module _ {M : Type 0} (N : Network M) (E : List (Step M)) (v : ChannelExecution 
       ap₂ (enc (bound N E)) (epoch-number N E v u)
       (latest-none (joins? N m) (joins-test N m) (joins-tested N m) (λ B. suc (length B)) E (λ h. clash u (join-single N E v (any-at h .1))))
 
-  pub joinKey-joined : {m : M} {B : List (Step M)} → At (Joins m) B E → joinKey N E m ≡ enc (bound N E) ((chan N B) .taken (N .mail .dest m)) (suc (length B))
+  pub joinKey-joined : {m : M} {B : List (Step M)} → At (Joins m) B E
+      → joinKey N E m ≡ enc (bound N E) ((chan N B) .taken (N .mail .dest m)) (suc (length B))
   joinKey-joined x = ap₂ (enc (bound N E)) (epoch-joined N E v x) (at-join N E v (λ B. suc (length B)) x)
 
   -- what has joined a card's inbox is below the card's present point
-  pub entered-below : {B C : List (Step M)} {m : M} {i : ℕ} → Suf B E → Entry N m i C B → joinKey N E m < enc (bound N E) ((chan N B) .taken i) (suc (length B))
+  pub entered-below : {B C : List (Step M)} {m : M} {i : ℕ} → Suf B E → Entry N m i C B
+      → joinKey N E m < enc (bound N E) ((chan N B) .taken i) (suc (length B))
   entered-below {B} {C} {m} {i} s (taking x t) =
       let f = flow N (flows-suf N s v) x in
       let c = take-can N (f .0) C m i (f .1) (f .2) in
@@ -55,7 +57,8 @@ module _ {M : Type 0} (N : Network M) (E : List (Step M)) (v : ChannelExecution 
       omega arith
 
   -- and what joins next is at that point or above it
-  pub take-above : {B : List (Step M)} {m : M} {i : ℕ} → At (Takes i m) B E → enc (bound N E) ((chan N B) .taken i) (suc (length B)) < joinKey N E m
+  pub take-above : {B : List (Step M)} {m : M} {i : ℕ} → At (Takes i m) B E
+      → enc (bound N E) ((chan N B) .taken i) (suc (length B)) < joinKey N E m
   take-above {B} {m} {i} x =
       let f = flow N v x in
       let c = take-can N (f .0) B m i (f .1) (f .2) in
@@ -67,7 +70,8 @@ module _ {M : Type 0} (N : Network M) (E : List (Step M)) (v : ChannelExecution 
       let z = enc-place (bound N E) ((chan N B) .taken i) (suc (length B)) ((chan N E) .mark m) 0 (omega arith) h in
       omega arith
 
-  pub join-level : {B : List (Step M)} {m : M} {i : ℕ} → At (Joins m) B E → N .mail .dest m ≡ i → joinKey N E m ≡ enc (bound N E) ((chan N B) .taken i) (suc (length B))
+  pub join-level : {B : List (Step M)} {m : M} {i : ℕ} → At (Joins m) B E → N .mail .dest m ≡ i
+      → joinKey N E m ≡ enc (bound N E) ((chan N B) .taken i) (suc (length B))
   join-level {B} x e = joinKey-joined x ∙ ap (λ c. enc (bound N E) ((chan N B) .taken c) (suc (length B))) e
 
   pub log-sorted : (B : List (Step M)) (i : ℕ) → Suf B E → Sorted (joinKey N E) (log N B i)

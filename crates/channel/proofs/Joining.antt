@@ -20,7 +20,8 @@ module _ {M : Type 0} (N : Network M) where
       → (N .mail .multi m ≡ false) × Any (Mcasts m) B × (¬ Any (Joins m) B) × ((chan N B) .mark m ≤ (chan N B) .taken (N .mail .dest m))
   join-can (join n) B m p c = subst (λ a. (N .mail .multi a ≡ false) × Any (Mcasts a) B × (¬ Any (Joins a) B) × ((chan N B) .mark a ≤ (chan N B) .taken (N .mail .dest a))) p c
 
-  pub take-can : (e : Step M) (B : List (Step M)) (m : M) (i : ℕ) → Takes i m e → ChannelPrecondition N B e → (N .mail .multi m ≡ true) × Any (Mcasts m) B × ((chan N B) .mark m ≡ suc ((chan N B) .taken i))
+  pub take-can : (e : Step M) (B : List (Step M)) (m : M) (i : ℕ) → Takes i m e → ChannelPrecondition N B e
+      → (N .mail .multi m ≡ true) × Any (Mcasts m) B × ((chan N B) .mark m ≡ suc ((chan N B) .taken i))
   take-can (take j n) B m i p c =
       subst (λ b. (N .mail .multi m ≡ true) × Any (Mcasts m) B × ((chan N B) .mark m ≡ suc ((chan N B) .taken b))) (p .1)
       (subst (λ a. (N .mail .multi a ≡ true) × Any (Mcasts a) B × ((chan N B) .mark a ≡ suc ((chan N B) .taken j))) (p .0) c)
@@ -45,7 +46,8 @@ module _ {M : Type 0} (N : Network M) where
   log-entered (mcast n ∷ E) m i h = entered-on (log-entered E m i h)
   log-entered (take j n ∷ E) m i h = go (push-cases (eqb i j && N .mail .to n j) (log N E i) h) (λ x. log-entered E m i x)
     where
-      go : In m (log N E i) ⊎ ((n ≡ m) × ((eqb i j && N .mail .to n j) ≡ true)) → (In m (log N E i) → Entered m i E) → Entered m i (take j n ∷ E)
+      go : In m (log N E i) ⊎ ((n ≡ m) × ((eqb i j && N .mail .to n j) ≡ true)) → (In m (log N E i) → Entered m i E)
+          → Entered m i (take j n ∷ E)
       go (inl x) r = entered-on (r x)
       go (inr x) r =
           let e = eqb-true i j (and-fst (eqb i j) _ (x .1)) in
@@ -59,7 +61,8 @@ module _ {M : Type 0} (N : Network M) where
   log-entered (rest ∷ E) m i h = entered-on (log-entered E m i h)
 
   -- what is in an inbox was multicast, to this card
-  pub inbox-to : (E : List (Step M)) → ChannelExecution N E → (m : M) (i : ℕ) → In m ((chan N E) .inbox i) → Any (Mcasts m) E × (N .mail .to m i ≡ true)
+  pub inbox-to : (E : List (Step M)) → ChannelExecution N E → (m : M) (i : ℕ) → In m ((chan N E) .inbox i)
+      → Any (Mcasts m) E × (N .mail .to m i ≡ true)
   inbox-to E v m i h = go (log-entered E m i (subst (In m) (sym (queue N E v i)) (any-right (gone N E i) h)) .how)
     where
       go : {B : List (Step M)} → Entry m i B E → Any (Mcasts m) E × (N .mail .to m i ≡ true)

@@ -10,3 +10,11 @@ pub mod Distinct
 pub mod KeepsPromise
 pub mod RankOrder
 pub mod PromiseLaws
+pub mod Held
+pub mod Agreement
+pub mod JoinLists
+pub mod DispatchKeeps
+pub mod TakeBroadcastKeeps
+pub mod TakeSingleKeeps
+pub mod DeliverKeeps
+pub mod ChannelKeeps

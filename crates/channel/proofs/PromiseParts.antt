@@ -13,7 +13,7 @@ use Rattle.lists.specs.Keys.{enc, enc-place, enc-time, place-le}
 use Rattle.lists.specs.Sorting.{Sorted, less-before}
 use Rattle.channel.specs.Mail.{Mail}
 use Rattle.channel.specs.Network.{Network}
-use Rattle.channel.specs.Automaton.{Step, mcast, receive, Mcasts, Receives, chan, ChannelExecution, Chan}
+use Rattle.channel.specs.Automaton.{Step, mcast, Mcasts, Receives, chan, ChannelExecution, Chan}
 use Rattle.channel.specs.TotalOrder.{joins?, epoch, bound, limit, rank}
 use Rattle.channel.proofs.Counts.{receive-one, flow, flows-suf, taken-suf, mcast-once, number, taken-made}
 use Rattle.channel.proofs.InboxHistory.{log, gone, gone-receives, receiving}
@@ -24,7 +24,8 @@ use Rattle.channel.proofs.Sent.{passed, number-one, was-sent, received-
 use Rattle.channel.proofs.Rank.{time-low, taken-limit, rank-broadcast, only-dest, rank-received, rank-unreceived, received-below, receive-order}
 
 module _ {M : Type 0} (N : Network M) (E : List (Step M)) (v : ChannelExecution N E) where
-  pub received-before : {m n : M} {i : ℕ} {B : List (Step M)} → At (Receives m i) B E → Any (Mcasts n) E → N .mail .to n i ≡ true → rank N E n < rank N E m → Any (Receives n i) B
+  pub received-before : {m n : M} {i : ℕ} {B : List (Step M)} → At (Receives m i) B E → Any (Mcasts n) E → N .mail .to n i ≡ true
+      → rank N E n < rank N E m → Any (Receives n i) B
   received-before {m} {n} {i} {B} x y t h = go (N .mail .multi n) refl
     where
       low : rank N E m ≤ enc (bound N E) ((chan N B) .taken i) (suc (length B))
@@ -87,7 +88,8 @@ module _ {M : Type 0} (N : Network M) (E : List (Step M)) (v : ChannelExecution 
               when : (C : List (Step M)) → At (Receives n i) C E → Any (Receives n i) B
               when C c = order (at-order x c)
                 where
-                  order : ((e : Step M) × Receives m i e × Receives n i e) ⊎ (At (Receives m i) B C ⊎ At (Receives n i) C B) → Any (Receives n i) B
+                  order : ((e : Step M) × Receives m i e × Receives n i e) ⊎ (At (Receives m i) B C ⊎ At (Receives n i) C B)
+                      → Any (Receives n i) B
                   order (inl w) = let q = ap (rank N E) (receive-one i i (w .0) (w .1) (w .2)) in absurd (omega (arith, h, q))
                   order (inr (inl w)) = let q = receive-order N E v w c in absurd (omega (arith, h, q))
                   order (inr (inr w)) = at-any w

@@ -40,13 +40,15 @@ module _ {M : Type 0} (N : Network M) (E : List (Step M)) (v : ChannelExecution 
   pub received-dest : {m : M} {i : ℕ} {B : List (Step M)} → N .mail .multi m ≡ false → At (Receives m i) B E → N .mail .dest m ≡ i
   received-dest u x = only-dest u (was-sent N E v x .1)
 
-  pub rank-received : {m : M} {i : ℕ} {B : List (Step M)} → N .mail .multi m ≡ false → At (Receives m i) B E → rank N E m ≡ enc (bound N E) (epoch N E m) (suc (length B))
+  pub rank-received : {m : M} {i : ℕ} {B : List (Step M)} → N .mail .multi m ≡ false → At (Receives m i) B E
+      → rank N E m ≡ enc (bound N E) (epoch N E m) (suc (length B))
   rank-received {m} {i} {B} u x =
       ap (λ t. cond t (enc (bound N E) (epoch N E m) 0) (rank-single (bound N E) (limit N E) (epoch N E m) (time (mcasts? N m) E) (time (receives? N m) E))) u
       ∙ ap (rank-single (bound N E) (limit N E) (epoch N E m) (time (mcasts? N m) E))
       (latest-at (receives? N m) (receives-test N m) (receives-tested N m) (λ B. suc (length B)) (λ C y. received-once N E v y) (subst (λ j. At (Receives m j) B E) (sym (received-dest u x)) x))
 
-  pub rank-unreceived : {m : M} {B : List (Step M)} → N .mail .multi m ≡ false → At (Mcasts m) B E → ¬ Any (Receives m (N .mail .dest m)) E → rank N E m ≡ enc (bound N E) (limit N E) (suc (length B))
+  pub rank-unreceived : {m : M} {B : List (Step M)} → N .mail .multi m ≡ false → At (Mcasts m) B E → ¬ Any (Receives m (N .mail .dest m)) E
+      → rank N E m ≡ enc (bound N E) (limit N E) (suc (length B))
   rank-unreceived {m} u x n =
       ap (λ t. cond t (enc (bound N E) (epoch N E m) 0) (rank-single (bound N E) (limit N E) (epoch N E m) (time (mcasts? N m) E) (time (receives? N m) E))) u
       ∙ ap (rank-single (bound N E) (limit N E) (epoch N E m) (time (mcasts? N m) E)) (latest-none (receives? N m) (receives-test N m) (receives-tested N m) (λ B. suc (length B)) E n)
@@ -84,7 +86,8 @@ module _ {M : Type 0} (N : Network M) (E : List (Step M)) (v : ChannelExecution 
       go true u = record { sub = 0; rank-is = rank-broadcast u; soon = omega arith }
       go false u = record { sub = suc (length B); rank-is = rank-received u x; soon = omega arith }
 
-  pub received-below : {m : M} {i : ℕ} {B : List (Step M)} → At (Receives m i) B E → rank N E m ≤ enc (bound N E) ((chan N B) .taken i) (suc (length B))
+  pub received-below : {m : M} {i : ℕ} {B : List (Step M)} → At (Receives m i) B E
+      → rank N E m ≤ enc (bound N E) ((chan N B) .taken i) (suc (length B))
   received-below {m} {i} {B} x =
       let g = got x in
       let r = g .rank-is in

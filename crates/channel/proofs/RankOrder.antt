@@ -24,14 +24,16 @@ module _ {M : Type 0} (N : Network M) (E : List (Step M)) (v : ChannelExecution 
       let z = enc-place (bound N E) (epoch N E m) 0 (epoch N E n) 0 h (omega arith) in
       omega arith
 
-  pub multi-single : {m n : M} {i : ℕ} {C : List (Step M)} → N .mail .multi m ≡ true → N .mail .multi n ≡ false → At (Receives n i) C E → epoch N E m ≤ epoch N E n → rank N E m < rank N E n
+  pub multi-single : {m n : M} {i : ℕ} {C : List (Step M)} → N .mail .multi m ≡ true → N .mail .multi n ≡ false → At (Receives n i) C E
+      → epoch N E m ≤ epoch N E n → rank N E m < rank N E n
   multi-single {m} {n} {C = C} u w y h =
       let a = rank-broadcast N E v u in
       let b = rank-received N E v w y in
       let z = enc-time (bound N E) (epoch N E m) 0 (epoch N E n) (suc (length C)) h (omega arith) in
       omega arith
 
-  pub single-multi : {m n : M} {i : ℕ} {B : List (Step M)} → N .mail .multi m ≡ false → At (Receives m i) B E → N .mail .multi n ≡ true → epoch N E m < epoch N E n → rank N E m < rank N E n
+  pub single-multi : {m n : M} {i : ℕ} {B : List (Step M)} → N .mail .multi m ≡ false → At (Receives m i) B E → N .mail .multi n ≡ true
+      → epoch N E m < epoch N E n → rank N E m < rank N E n
   single-multi {m} {n} {B = B} u x w h =
       let a = rank-received N E v u x in
       let b = rank-broadcast N E v w in
@@ -39,7 +41,8 @@ module _ {M : Type 0} (N : Network M) (E : List (Step M)) (v : ChannelExecution 
       omega arith
 
   -- two singles of one epoch: in the order in which they are received, wherever that is
-  pub single-single : {m n : M} {i j : ℕ} {B C : List (Step M)} → N .mail .multi m ≡ false → N .mail .multi n ≡ false → At (Receives m i) B C → At (Receives n j) C E → epoch N E m ≡ epoch N E n → rank N E m < rank N E n
+  pub single-single : {m n : M} {i j : ℕ} {B C : List (Step M)} → N .mail .multi m ≡ false → N .mail .multi n ≡ false
+      → At (Receives m i) B C → At (Receives n j) C E → epoch N E m ≡ epoch N E n → rank N E m < rank N E n
   single-single {m} {n} {B = B} {C} u w x y h =
       let a = rank-received N E v u (suf-at (at-suf y) x) in
       let b = rank-received N E v w y in
@@ -48,7 +51,8 @@ module _ {M : Type 0} (N : Network M) (E : List (Step M)) (v : ChannelExecution 
       omega arith
 
   -- two singles of different epochs (Lemma 6.3)
-  pub single-epochs : {m n : M} {i j : ℕ} {B C : List (Step M)} → N .mail .multi m ≡ false → N .mail .multi n ≡ false → At (Receives m i) B E → At (Receives n j) C E → epoch N E m < epoch N E n → rank N E m < rank N E n
+  pub single-epochs : {m n : M} {i j : ℕ} {B C : List (Step M)} → N .mail .multi m ≡ false → N .mail .multi n ≡ false
+      → At (Receives m i) B E → At (Receives n j) C E → epoch N E m < epoch N E n → rank N E m < rank N E n
   single-epochs {m} {n} {B = B} {C} u w x y h =
       let a = rank-received N E v u x in
       let b = rank-received N E v w y in
@@ -56,7 +60,8 @@ module _ {M : Type 0} (N : Network M) (E : List (Step M)) (v : ChannelExecution 
       omega arith
 
   -- what has not been received comes after all the rest, as it was multicast
-  pub multi-waiting : {m n : M} {C : List (Step M)} → N .mail .multi m ≡ true → Any (Mcasts m) E → N .mail .multi n ≡ false → At (Mcasts n) C E → ¬ Any (Receives n (N .mail .dest n)) E → rank N E m < rank N E n
+  pub multi-waiting : {m n : M} {C : List (Step M)} → N .mail .multi m ≡ true → Any (Mcasts m) E → N .mail .multi n ≡ false
+      → At (Mcasts n) C E → ¬ Any (Receives n (N .mail .dest n)) E → rank N E m < rank N E n
   multi-waiting {m} {n} {C} u x w y k =
       let c = any-at x in
       let p = number N v u (c .1) in
@@ -67,14 +72,17 @@ module _ {M : Type 0} (N : Network M) (E : List (Step M)) (v : ChannelExecution 
       let z = enc-time (bound N E) (epoch N E m) 0 (limit N E) (suc (length C)) (omega arith) (omega arith) in
       omega arith
 
-  pub single-waiting : {m n : M} {i : ℕ} {B C : List (Step M)} → N .mail .multi m ≡ false → At (Receives m i) B E → N .mail .multi n ≡ false → At (Mcasts n) C E → ¬ Any (Receives n (N .mail .dest n)) E → rank N E m < rank N E n
+  pub single-waiting : {m n : M} {i : ℕ} {B C : List (Step M)} → N .mail .multi m ≡ false → At (Receives m i) B E → N .mail .multi n ≡ false
+      → At (Mcasts n) C E → ¬ Any (Receives n (N .mail .dest n)) E → rank N E m < rank N E n
   single-waiting {m} {n} {B = B} {C} u x w y k =
       let a = rank-received N E v u x in
       let b = rank-unreceived N E v w y k in
       let z = enc-place (bound N E) (epoch N E m) (suc (length B)) (limit N E) (suc (length C)) (epoch-limit N E v x) (time-low N E v x) in
       omega arith
 
-  pub waiting-waiting : {m n : M} {B C : List (Step M)} → N .mail .multi m ≡ false → At (Mcasts m) B C → ¬ Any (Receives m (N .mail .dest m)) E → N .mail .multi n ≡ false → At (Mcasts n) C E → ¬ Any (Receives n (N .mail .dest n)) E → rank N E m < rank N E n
+  pub waiting-waiting : {m n : M} {B C : List (Step M)} → N .mail .multi m ≡ false → At (Mcasts m) B C
+      → ¬ Any (Receives m (N .mail .dest m)) E → N .mail .multi n ≡ false → At (Mcasts n) C E → ¬ Any (Receives n (N .mail .dest n)) E
+      → rank N E m < rank N E n
   waiting-waiting {m} {n} {B} {C} u x j w y k =
       let a = rank-unreceived N E v u (suf-at (at-suf y) x) j in
       let b = rank-unreceived N E v w y k in

@@ -23,7 +23,8 @@ use Rattle.channel.proofs.InboxOrder.{joinKey, log-sorted}
 
 module _ {M : Type 0} (N : Network M) (E : List (Step M)) (v : ChannelExecution N E) where
   -- each number that a card has passed was a broadcast that it took
-  pub passed : (B : List (Step M)) (i q : ℕ) → Suf B E → q < (chan N B) .taken i → (m : M) × Any (Takes i m) B × (N .mail .multi m ≡ true) × Any (Mcasts m) E × ((chan N E) .mark m ≡ suc q)
+  pub passed : (B : List (Step M)) (i q : ℕ) → Suf B E → q < (chan N B) .taken i
+      → (m : M) × Any (Takes i m) B × (N .mail .multi m ≡ true) × Any (Mcasts m) E × ((chan N E) .mark m ≡ suc q)
   passed [] i q s h = absurd (omega arith)
   passed (mcast m ∷ B) i q s h = let r = passed B i q (suf-tail s) h in (r .0, there (r .1), r .2, r .3, r .4)
   passed (take j m ∷ B) i q s h = go (decLt q ((chan N B) .taken i)) (eqb i j) refl h (λ x. passed B i q (suf-tail s) x)
@@ -44,7 +45,8 @@ module _ {M : Type 0} (N : Network M) (E : List (Step M)) (v : ChannelExecution 
   passed (rest ∷ B) i q s h = let r = passed B i q (suf-tail s) h in (r .0, there (r .1), r .2, r .3, r .4)
 
   -- a number is that of one broadcast
-  pub number-one : {m n : M} → N .mail .multi m ≡ true → N .mail .multi n ≡ true → Any (Mcasts m) E → Any (Mcasts n) E → (chan N E) .mark m ≡ (chan N E) .mark n → m ≡ n
+  pub number-one : {m n : M} → N .mail .multi m ≡ true → N .mail .multi n ≡ true → Any (Mcasts m) E → Any (Mcasts n) E
+      → (chan N E) .mark m ≡ (chan N E) .mark n → m ≡ n
   number-one {m} {n} um un x y e = go (any-at x .0) (any-at x .1) (any-at y .0) (any-at y .1)
     where
       go : (B : List (Step M)) → At (Mcasts m) B E → (C : List (Step M)) → At (Mcasts n) C E → m ≡ n
@@ -93,7 +95,8 @@ module _ {M : Type 0} (N : Network M) (E : List (Step M)) (v : ChannelExecution 
       go {B} (joining x t) = at-any x
 
   -- a message's epoch is at least its tag
-  pub epoch-tag : {m : M} {B : List (Step M)} {i : ℕ} → N .mail .multi m ≡ false → At (Mcasts m) B E → Any (Receives m i) E → (chan N B) .taken (N .from m) ≤ epoch N E m
+  pub epoch-tag : {m : M} {B : List (Step M)} {i : ℕ} → N .mail .multi m ≡ false → At (Mcasts m) B E → Any (Receives m i) E
+      → (chan N B) .taken (N .from m) ≤ epoch N E m
   epoch-tag {m} {B} u x y =
       let j = any-at (received-joined u y) in
       let f = flow N v (j .1) in

@@ -2,7 +2,7 @@
 -- the inbox there as soon as the tag allows, in step 7 or step 8; whether it was in flight (PP) or held (ppwait) until then makes no
 -- difference to what is promised, so here it is just not yet joined.
 use mathlib.Core.Path.{_≡_}
-use mathlib.Core.Bool.{Bool, true, false, cond, _&&_}
+use mathlib.Core.Bool.{true, false, cond, _&&_}
 use mathlib.Core.List.{List, [], _∷_}
 use Prim.Native.Nat.{ℕ, zero, suc, _≤_}
 use lib.Dec.{eqb}

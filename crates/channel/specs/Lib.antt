@@ -5,3 +5,4 @@ pub mod Refusals
 pub mod Network
 pub mod Automaton
 pub mod TotalOrder
+pub mod Trace

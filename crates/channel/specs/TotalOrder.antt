@@ -1,5 +1,5 @@
 -- The order T on the multicasts of a run (000 §6.2), as a number: T puts m before n exactly if rank m < rank n.
-use mathlib.Core.Bool.{Bool, true, false, cond, _&&_}
+use mathlib.Core.Bool.{Bool, false, cond, _&&_}
 use mathlib.Core.List.{List}
 use Prim.Native.Nat.{ℕ, zero, suc}
 use lib.Dec.{eqb}
