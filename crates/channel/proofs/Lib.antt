@@ -18,3 +18,4 @@ pub mod TakeBroadcastKeeps
 pub mod TakeSingleKeeps
 pub mod DeliverKeeps
 pub mod ChannelKeeps
+pub mod PaperWording

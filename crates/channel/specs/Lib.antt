@@ -6,3 +6,4 @@ pub mod Network
 pub mod Automaton
 pub mod TotalOrder
 pub mod Trace
+pub mod ContextMulticast

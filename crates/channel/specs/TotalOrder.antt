@@ -1,7 +1,7 @@
--- The order T on the multicasts of a run (000 §6.2), as a number: T puts m before n exactly if rank m < rank n.
+-- The order T on the multicasts of a run (000 §6.2), as a number: (m, n) ∈ T exactly if rank m < rank n.
 use mathlib.Core.Bool.{Bool, false, cond, _&&_}
 use mathlib.Core.List.{List}
-use Prim.Native.Nat.{ℕ, zero, suc}
+use Prim.Native.Nat.{ℕ, zero, suc, _<_}
 use lib.Dec.{eqb}
 use lib.ListN.{length}
 use Rattle.lists.specs.Latest.{latest, time}
@@ -61,3 +61,7 @@ module _ {M : Type 0} (N : Network M) where
 
     abbrev pub rank : M → ℕ
     rank = rankAt bound limit E
+
+    -- (m, n) ∈ T
+    abbrev pub Before : M → M → Type 0
+    Before m n = rank m < rank n
