@@ -19,3 +19,6 @@ pub mod TakeSingleKeeps
 pub mod DeliverKeeps
 pub mod ChannelKeeps
 pub mod PaperWording
+pub mod RenamedLists
+pub mod RenamedSteps
+pub mod RenamedRefusals

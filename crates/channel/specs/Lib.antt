@@ -7,3 +7,5 @@ pub mod Automaton
 pub mod TotalOrder
 pub mod Trace
 pub mod ContextMulticast
+pub mod Renaming
+pub mod Calls

@@ -9,3 +9,4 @@ pub mod Queues
 pub mod Filters
 pub mod Keys
 pub mod Sorting
+pub mod Maps
