@@ -17,6 +17,14 @@ module _ {M : Type 0} (N : Network M) where
   joins-mcast [] h = h
   joins-mcast (a ∷ l) h = joins-mcast l (there h)
 
+  -- a join is no multicast
+  pub mcast-joins : (l : List M) {E : List (Step M)} {m : M} → Any (Mcasts m) (joins l E) → Any (Mcasts m) E
+  mcast-joins [] h = h
+  mcast-joins (a ∷ l) {E} {m} h = go (mcast-joins l h)
+    where
+      go : Any (Mcasts m) (join a ∷ E) → Any (Mcasts m) E
+      go (there x) = x
+
   pub joins-joined : (l : List M) {E : List (Step M)} {m : M} → Any (Joins m) (joins l E) → Any (Joins m) E ⊎ In m l
   joins-joined [] h = inl h
   joins-joined (a ∷ l) {E} {m} h = go (joins-joined l h)

@@ -22,3 +22,5 @@ pub mod PaperWording
 pub mod RenamedLists
 pub mod RenamedSteps
 pub mod RenamedRefusals
+pub mod Postings
+pub mod CallsKeepPromise

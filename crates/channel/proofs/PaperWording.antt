@@ -101,7 +101,8 @@ module _ {X M : Type 0} (view : X → Act M) (T : M → M → Type 0) (E : List 
       one m n (inr (inl t)) q = let k = lower t in absurd (omega arith)
       one m n (inr (inr t)) q = let k = lower t in absurd (omega arith)
 
-      consistent : (m n : M) (i : ℕ) (B : List X) → At (λ e. IsReceive m i (view e)) B E → (C : List X) × At (λ e. IsReceive n i (view e)) C E
+      consistent : (m n : M) (i : ℕ) (B : List X) → At (λ e. IsReceive m i (view e)) B E
+          → (C : List X) × At (λ e. IsReceive n i (view e)) C E
           → height n < height m → Any (λ e. IsReceive n i (view e)) B
       consistent m n i B x y h = go (at-order x (y .1))
         where

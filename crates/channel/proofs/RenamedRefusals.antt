@@ -40,7 +40,8 @@ module _ {M N : Type 0} (h : M → N) (a : Mail M) (b : Mail N) (r : Alike h a b
       ∙ ap length (sym (map-append h (push (a .to m i) m (w .inbox i)) (released (suc (w .taken i)) (w .held i))))
       ∙ length-map (push (a .to m i) m (w .inbox i) ++ released (suc (w .taken i)) (w .held i)) h)
 
-  singleRefusal-map : (w : ChannelState M) (o : Option (Tagged M)) → singleRefusal b cards (channel-map h w) (Option·map (tag-map h) o) ≡ singleRefusal a cards w o
+  singleRefusal-map : (w : ChannelState M) (o : Option (Tagged M))
+      → singleRefusal b cards (channel-map h w) (Option·map (tag-map h) o) ≡ singleRefusal a cards w o
   singleRefusal-map w none = refl
   singleRefusal-map w (some x) =
       ap (λ i. cond (leb (x .mark) (w .taken i)) (otherwise 6 (ltb (length (map h (w .inbox i))) 48)) (otherwise 6 (ltb (length (map (tag-map h) (w .held i))) 16))) (r .dest= (x .msg))

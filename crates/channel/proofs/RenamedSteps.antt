@@ -2,7 +2,7 @@
 use lib.Dec.{eqb, leb}
 use mathlib.Core.Path.{_≡_, refl, sym, ap, ap₂, _∙_}
 use mathlib.Core.Bool.{Bool, true, false, cond}
-use mathlib.Core.List.{List, [], _∷_, _++_, map, map-append}
+use mathlib.Core.List.{[], _∷_, _++_, map, map-append}
 use mathlib.Core.Option.{Option, none, some, Option·map}
 use Prim.Native.Nat.{ℕ, suc}
 use Rattle.lists.specs.Queues.{push}
@@ -17,7 +17,8 @@ abbrev pub Broadcasts : {M : Type 0} → Mail M → ChannelState M → Type 0
 Broadcasts {M} a w = (n : ℕ) (m : M) → nth (w .sent) n ≡ some m → a .multi m ≡ true
 
 module _ {M N : Type 0} (h : M → N) (a : Mail M) (b : Mail N) (r : Alike h a b) where
-  dispatching-map : (t : Bool) (w : ChannelState M) (i : ℕ) (m : M) → dispatching b t (channel-map h w) i (h m) ≡ channel-map h (dispatching a t w i m)
+  dispatching-map : (t : Bool) (w : ChannelState M) (i : ℕ) (m : M)
+      → dispatching b t (channel-map h w) i (h m) ≡ channel-map h (dispatching a t w i m)
   dispatching-map true w i m = λ z. record {
     sent = sym (map-append h (w .sent) (m ∷ [])) z;
     taken = w .taken;
@@ -53,16 +54,19 @@ module _ {M N : Type 0} (h : M → N) (a : Mail M) (b : Mail N) (r : Alike h a b
       n : ℕ
       n = suc (w .taken i)
 
-      keeping : (t : Bool) (j : ℕ) → cond t (kept n (map (tag-map h) (w .held j))) (map (tag-map h) (w .held j)) ≡ map (tag-map h) (cond t (kept n (w .held j)) (w .held j))
+      keeping : (t : Bool) (j : ℕ)
+          → cond t (kept n (map (tag-map h) (w .held j))) (map (tag-map h) (w .held j)) ≡ map (tag-map h) (cond t (kept n (w .held j)) (w .held j))
       keeping true j = kept-map h n (w .held j)
       keeping false j = refl
 
-      joining : (t s : Bool) (j : ℕ) → cond t (push s (h m) (map h (w .inbox j)) ++ released n (map (tag-map h) (w .held j))) (map h (w .inbox j))
+      joining : (t s : Bool) (j : ℕ)
+          → cond t (push s (h m) (map h (w .inbox j)) ++ released n (map (tag-map h) (w .held j))) (map h (w .inbox j))
           ≡ map h (cond t (push s m (w .inbox j) ++ released n (w .held j)) (w .inbox j))
       joining true s j = ap₂ (λ x y. x ++ y) (sym (map-push h s m (w .inbox j))) (released-map h n (w .held j)) ∙ sym (map-append h (push s m (w .inbox j)) (released n (w .held j)))
       joining false s j = refl
 
-  landing-map : (t : Bool) (w : ChannelState M) (c : ℕ) (x : Tagged M) → landing b t (channel-map h w) c (tag-map h x) ≡ channel-map h (landing a t w c x)
+  landing-map : (t : Bool) (w : ChannelState M) (c : ℕ) (x : Tagged M)
+      → landing b t (channel-map h w) c (tag-map h x) ≡ channel-map h (landing a t w c x)
   landing-map t w c x = go t
     where
       left : (s : Bool) (d : ℕ) → cond s none (Option·map (tag-map h) (w .flight d)) ≡ Option·map (tag-map h) (cond s none (w .flight d))
@@ -85,7 +89,8 @@ module _ {M N : Type 0} (h : M → N) (a : Mail M) (b : Mail N) (r : Alike h a b
         inbox = λ j. map h (w .inbox j);
       }
 
-  arriving-map : (w : ChannelState M) (c : ℕ) (o : Option (Tagged M)) → arriving b (channel-map h w) c (Option·map (tag-map h) o) ≡ channel-map h (arriving a w c o)
+  arriving-map : (w : ChannelState M) (c : ℕ) (o : Option (Tagged M))
+      → arriving b (channel-map h w) c (Option·map (tag-map h) o) ≡ channel-map h (arriving a w c o)
   arriving-map w c none = refl
   arriving-map w c (some x) =
       ap (λ i. landing b (leb (x .mark) (w .taken i)) (channel-map h w) c (tag-map h x)) (r .dest= (x .msg))

@@ -1,7 +1,7 @@
 -- Any list of calls of the channel, refused ones included, and what is promised of it. The calls' messages may repeat; a message's identity
 -- is the number of the dispatch that was done with it.
 use mathlib.Core.Path.{_≡_}
-use mathlib.Core.Bool.{Bool, true, false, cond, _&&_}
+use mathlib.Core.Bool.{Bool, cond, _&&_}
 use mathlib.Core.List.{List, [], _∷_, _++_}
 use Prim.Native.Nat.{ℕ}
 use lib.Dec.{eqb}

@@ -1,7 +1,7 @@
 -- A list with each element replaced by its image: the queue operations and the filters do to the images what they do to the elements.
 use mathlib.Core.Path.{_≡_, refl, ap, _∙_}
 use mathlib.Core.Bool.{Bool, true, false}
-use mathlib.Core.List.{List, [], _∷_, _++_, map, map-append}
+use mathlib.Core.List.{List, [], _∷_, map, map-append}
 use Prim.Native.Nat.{suc}
 use lib.ListN.{length}
 use Rattle.lists.specs.Queues.{push, pop}
