@@ -22,6 +22,7 @@ use Rattle.channel.proofs.Agreement.{Agrees, agrees-start}
 use Rattle.channel.proofs.ChannelKeeps.{FreshAction, channelStep-keeps}
 use Rattle.channel.proofs.RenamedSteps.{channelStep-map}
 use Rattle.channel.proofs.KeepsPromise.{sends→, keeps-promise}
+use Rattle.channel.proofs.Prompt.{calls-prompt, holds-in}
 use Rattle.channel.proofs.Postings.{posted-new}
 
 -- the numbers multicast so far are those given so far
@@ -140,4 +141,5 @@ module _ {M : Type 0} (mail : Mail M) (cards : ℕ) (inRange : ChannelAction M �
         let g = flow N (upto xs stop .execution) (at-map (sends→ N k) y) in
         mcast-once N (g .0) B k (g .2) (any-map (sends→ N k) z) (g .1);
     shows = λ ys s. upto ys s .shown;
+    prompt = λ i x y. calls-prompt mail cards inRange blank xs i (x .msg) (x .mark) (holds-in y);
   }

@@ -24,3 +24,4 @@ pub mod RenamedSteps
 pub mod RenamedRefusals
 pub mod Postings
 pub mod CallsKeepPromise
+pub mod Prompt

@@ -3,15 +3,15 @@
 use mathlib.Core.Path.{_≡_}
 use mathlib.Core.Bool.{Bool, cond, _&&_}
 use mathlib.Core.List.{List, [], _∷_, _++_}
-use Prim.Native.Nat.{ℕ}
+use Prim.Native.Nat.{ℕ, _<_}
 use lib.Dec.{eqb}
 use lib.ListN.{length, getD}
 use borrow.Author.Tests.{eqb-true}
 use Rattle.lists.specs.Tests.{eqb-refl}
-use Rattle.lists.specs.Histories.{Any, At, Suf}
+use Rattle.lists.specs.Histories.{Any, At, Suf, In}
 use Rattle.channel.specs.Promise.{IsMcast, Promise}
 use Rattle.channel.specs.Mail.{Mail}
-use Rattle.channel.specs.State.{ChannelState, initialChannel, ChannelAction, dispatch, takeBroadcast, takeSingle, deliver, channelStep}
+use Rattle.channel.specs.State.{Tagged, ChannelState, initialChannel, ChannelAction, dispatch, takeBroadcast, takeSingle, deliver, channelStep}
 use Rattle.channel.specs.Refusals.{channelRefusal}
 use Rattle.channel.specs.Network.{Network}
 use Rattle.channel.specs.Automaton.{Step, external}
@@ -90,8 +90,10 @@ module _ {M : Type 0} (mail : Mail M) (cards : ℕ) (inRange : ChannelAction M �
 
   -- What is promised of a list of calls. `promise`: with 000 §6.2's order T as rank, the multicasts and receives keep the promise.
   -- `number-once`: a number is multicast once. `shows`: at every moment the state is that of the numbers, with messages for numbers.
+  -- `prompt`: what is held has a tag above the number of broadcasts taken there, so nothing is held longer than its tag asks.
   pub record CallsPromise (xs : List (ChannelAction M)) : Type 0 where
     pub promise : Promise (external (numbers (posted xs))) (rank (numbers (posted xs)) (trace (posted xs) xs)) (trace (posted xs) xs)
     pub number-once : (k : ℕ) (B : List (Step ℕ)) → At (λ e. IsMcast k (external (numbers (posted xs)) e)) B (trace (posted xs) xs)
         → ¬ Any (λ e. IsMcast k (external (numbers (posted xs)) e)) B
     pub shows : (ys : List (ChannelAction M)) → Suf ys xs → calls ys ≡ channel-map (letter (posted xs)) (numbered (posted xs) ys)
+    pub prompt : (i : ℕ) (x : Tagged M) → In x ((calls xs) .held i) → (calls xs) .taken i < x .mark

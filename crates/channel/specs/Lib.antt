@@ -9,3 +9,4 @@ pub mod Trace
 pub mod ContextMulticast
 pub mod Renaming
 pub mod Calls
+pub mod Examples

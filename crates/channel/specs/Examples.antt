@@ -1,0 +1,107 @@
+-- The channel's part of the named runs K9 and K10 (01, "Named runs"), computed: what is held, and when it is released.
+use mathlib.Core.Path.{_≡_, refl}
+use mathlib.Core.Bool.{Bool, true, false, cond}
+use mathlib.Core.List.{List, [], _∷_, _++_}
+use Prim.Native.Nat.{ℕ}
+use lib.Dec.{eqb, ltb}
+use Rattle.lists.specs.Every.{each}
+use Rattle.lists.specs.Keys.{enc}
+use Rattle.channel.specs.Mail.{Mail}
+use Rattle.channel.specs.State.{ChannelState, ChannelAction, dispatch, takeBroadcast, takeSingle, deliver}
+use Rattle.channel.specs.Refusals.{channelRefusal}
+use Rattle.channel.specs.TotalOrder.{rank}
+use Rattle.channel.specs.Calls.{Posted, calls, posted, numbers, trace}
+
+pub data Note : Type 0 where
+  update : Note  -- of register 0, on all three cards, by task 2
+  setting : Note  -- of register 1, on card 1, by task 0
+  reading : Note  -- of register 1, asked of card 1 by task 0
+  reply : Note  -- to task 0, on card 0
+
+abbrev isUpdate : Note → Bool
+isUpdate update = true
+isUpdate setting = false
+isUpdate reading = false
+isUpdate reply = false
+
+abbrev goal : Note → ℕ
+goal update = 0
+goal setting = 1
+goal reading = 1
+goal reply = 0
+
+abbrev notes : Mail Note
+notes = record {
+  task = λ m. cond (isUpdate m) 2 0;
+  to = λ m i. cond (isUpdate m) (ltb i 3) (eqb i (goal m));
+  multi = isUpdate;
+  dest = goal;
+}
+
+abbrev blank : Posted Note
+blank = record { from = 0; body = update }
+
+-- the calls in their order, put before those made already
+abbrev newest : List (ChannelAction Note) → List (ChannelAction Note) → List (ChannelAction Note)
+newest [] l = l
+newest (x ∷ xs) l = newest xs (x ∷ l)
+
+abbrev after : List (ChannelAction Note) → ChannelState Note
+after xs = calls notes 3 (λ x. true) blank (newest xs [])
+
+-- K9: card 2 sends the update; card 0 takes and receives it, then sends "set register 1 to 9"; step 8 brings that to card 1
+abbrev k9 : List (ChannelAction Note)
+k9 = dispatch 2 update ∷ takeBroadcast 0 ∷ deliver 0 ∷ dispatch 0 setting ∷ takeSingle 0 ∷ []
+
+-- "tagged 1. Step 8 holds it at card 1"
+pub k9-held : (after k9) .held 1 ≡ record { msg = setting; mark = 1 } ∷ []
+unfolding channelRefusal each
+k9-held = refl
+
+-- "step 9 there gives 33"
+pub k9-empty : channelRefusal notes 3 (after k9) (deliver 1) ≡ 33
+unfolding channelRefusal each
+k9-empty = refl
+
+-- "After card 1 takes broadcast 1, two deliveries set 7, then 9."
+pub k9-released : (after (k9 ++ (takeBroadcast 1 ∷ []))) .inbox 1 ≡ update ∷ setting ∷ []
+unfolding channelRefusal each
+k9-released = refl
+
+pub k9-none-held : (after (k9 ++ (takeBroadcast 1 ∷ []))) .held 1 ≡ []
+unfolding channelRefusal each
+k9-none-held = refl
+
+-- K10: "Card 1 delivers broadcast 1, then answers a read from task 0. The reply is held at card 0 until broadcast 1 is taken there."
+abbrev k10 : List (ChannelAction Note)
+k10 =
+    dispatch 2 update ∷ takeBroadcast 1 ∷ deliver 1 ∷ dispatch 0 reading ∷ takeSingle 0 ∷ deliver 1 ∷ dispatch 1 reply ∷ takeSingle 0 ∷ []
+
+pub k10-held : (after k10) .held 0 ≡ record { msg = reply; mark = 1 } ∷ []
+unfolding channelRefusal each
+k10-held = refl
+
+pub k10-empty : channelRefusal notes 3 (after k10) (deliver 0) ≡ 33
+unfolding channelRefusal each
+k10-empty = refl
+
+pub k10-released : (after (k10 ++ (takeBroadcast 0 ∷ []))) .inbox 0 ≡ update ∷ reply ∷ []
+unfolding channelRefusal each
+k10-released = refl
+
+-- The order T of K9, when all is received at card 1: the update (number 0) before the setting (number 1), which is of its epoch.
+abbrev k9-all : List (ChannelAction Note)
+k9-all = newest (k9 ++ (takeBroadcast 1 ∷ deliver 1 ∷ deliver 1 ∷ [])) []
+
+abbrev k9-rank : ℕ → ℕ
+k9-rank = let P = posted notes 3 (λ x. true) blank k9-all in rank (numbers notes 3 (λ x. true) blank P) (trace notes 3 (λ x. true) blank P k9-all)
+
+-- eight steps, so an epoch counts 10: 1 * 10 + 0
+pub k9-first : k9-rank 0 ≡ 10
+unfolding channelRefusal each enc
+k9-first = refl
+
+-- 1 * 10 + 8: received in the eighth step
+pub k9-second : k9-rank 1 ≡ 18
+unfolding channelRefusal each enc
+k9-second = refl
