@@ -25,3 +25,4 @@ pub mod RenamedRefusals
 pub mod Postings
 pub mod CallsKeepPromise
 pub mod Prompt
+pub mod Mistakes

@@ -1,6 +1,6 @@
 -- The channel's part of the named runs K9 and K10 (01, "Named runs"), computed: what is held, and when it is released.
 use mathlib.Core.Path.{_≡_, refl}
-use mathlib.Core.Bool.{Bool, true, false, cond}
+use mathlib.Core.Bool.{Bool, true, false, _||_}
 use mathlib.Core.List.{List, [], _∷_, _++_}
 use Prim.Native.Nat.{ℕ}
 use lib.Dec.{eqb, ltb}
@@ -17,26 +17,38 @@ pub data Note : Type 0 where
   setting : Note  -- of register 1, on card 1, by task 0
   reading : Note  -- of register 1, asked of card 1 by task 0
   reply : Note  -- to task 0, on card 0
+  partial : Note  -- an update for cards 1 and 2 alone, by task 1
 
-abbrev isUpdate : Note → Bool
-isUpdate update = true
-isUpdate setting = false
-isUpdate reading = false
-isUpdate reply = false
+abbrev taskOf : Note → ℕ
+taskOf update = 2
+taskOf setting = 0
+taskOf reading = 0
+taskOf reply = 0
+taskOf partial = 1
+
+abbrev several : Note → Bool
+several update = true
+several setting = false
+several reading = false
+several reply = false
+several partial = true
 
 abbrev goal : Note → ℕ
 goal update = 0
 goal setting = 1
 goal reading = 1
 goal reply = 0
+goal partial = 1
+
+abbrev goes : Note → ℕ → Bool
+goes update i = ltb i 3
+goes setting i = eqb i 1
+goes reading i = eqb i 1
+goes reply i = eqb i 0
+goes partial i = eqb i 1 || eqb i 2
 
 abbrev notes : Mail Note
-notes = record {
-  task = λ m. cond (isUpdate m) 2 0;
-  to = λ m i. cond (isUpdate m) (ltb i 3) (eqb i (goal m));
-  multi = isUpdate;
-  dest = goal;
-}
+notes = record { task = taskOf; to = goes; multi = several; dest = goal }
 
 abbrev blank : Posted Note
 blank = record { from = 0; body = update }
@@ -88,6 +100,26 @@ k10-empty = refl
 pub k10-released : (after (k10 ++ (takeBroadcast 0 ∷ []))) .inbox 0 ≡ update ∷ reply ∷ []
 unfolding channelRefusal each
 k10-released = refl
+
+-- A card that is no destination counts a broadcast too: card 0 drops it, and what it sends then waits for it at card 1.
+abbrev counted : List (ChannelAction Note)
+counted = dispatch 1 partial ∷ takeBroadcast 0 ∷ dispatch 0 setting ∷ takeSingle 0 ∷ []
+
+pub counted-taken : (after counted) .taken 0 ≡ 1
+unfolding channelRefusal each
+counted-taken = refl
+
+pub counted-dropped : (after counted) .inbox 0 ≡ []
+unfolding channelRefusal each
+counted-dropped = refl
+
+pub counted-held : (after counted) .held 1 ≡ record { msg = setting; mark = 1 } ∷ []
+unfolding channelRefusal each
+counted-held = refl
+
+pub counted-released : (after (counted ++ (takeBroadcast 1 ∷ []))) .inbox 1 ≡ partial ∷ setting ∷ []
+unfolding channelRefusal each
+counted-released = refl
 
 -- The order T of K9, when all is received at card 1: the update (number 0) before the setting (number 1), which is of its epoch.
 abbrev k9-all : List (ChannelAction Note)
