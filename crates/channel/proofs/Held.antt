@@ -1,13 +1,13 @@
 -- Facts on lists of held messages: which of them a broadcast releases, which stay, and that each is held once.
 use lib.Dec.{eqb}
 use borrow.Author.Tests.{eqb-true}
-use mathlib.Core.Path.{_≡_, refl, sym, _∙_, subst}
+use mathlib.Core.Path.{_≡_, refl, sym, ap, _∙_, subst}
 use mathlib.Core.Logic.{_⊎_, inl, inr, _≢_}
 use mathlib.Core.Bool.{Bool, true, false}
 use mathlib.Core.List.{List, [], _∷_}
 use Prim.Native.Nat.{ℕ}
 use Rattle.lists.specs.Tests.{eqb-of, clash}
-use Rattle.lists.specs.Histories.{Any, In, any-nil, here, there}
+use Rattle.lists.specs.Histories.{Any, In, any-nil, any-map, here, there}
 use Rattle.lists.specs.Queues.{push, push-any, Once}
 use Rattle.channel.specs.State.{Tagged, choose, released, leave, kept}
 
@@ -34,6 +34,9 @@ module _ {M : Type 0} where
       go true e (here p) r = here {e = x} (p, eqb-true _ _ e)
       go true e (there y) r = there (r y)
       go false e y r = there (r y)
+
+  pub holds-in : {x : Tagged M} {l : List (Tagged M)} → In x l → Any (Holds (x .msg) (x .mark)) l
+  holds-in h = any-map (λ y e. (ap (λ z. z .msg) e, ap (λ z. z .mark) e)) h
 
   pub holds-names : {m : M} {t : ℕ} {l : List (Tagged M)} → Any (Holds m t) l → Any (Names m) l
   holds-names (here p) = here (p .0)

@@ -1,18 +1,24 @@
--- Several messages that join in a row, as a take releases them.
-use lib.Dec.{eqb}
+-- Several messages that join in a row, as a take releases them; and an operation's steps as a part of the history.
+use lib.Dec.{eqb, leb}
 use mathlib.Core.Path.{_≡_, refl, sym, _∙_, subst}
 use mathlib.Core.Logic.{_⊎_, inl, inr}
 use mathlib.Core.Bool.{Bool, true, false, cond}
 use mathlib.Core.List.{List, [], _∷_, _++_, append-assoc, append-nil}
-use Prim.Native.Nat.{ℕ, _≤_}
-use Rattle.lists.specs.Histories.{Any, In, here, there}
+use mathlib.Core.Option.{Option, none, some}
+use Prim.Native.Nat.{ℕ, suc, _≤_}
+use Rattle.lists.specs.Histories.{Any, Suf, stop, back, suf-trans, In, here, there}
 use Rattle.lists.specs.Queues.{push, Once}
 use Rattle.channel.specs.Mail.{Mail}
+use Rattle.channel.specs.State.{Tagged, ChannelState, nth, released, ChannelAction, dispatch, takeBroadcast, takeSingle, deliver}
 use Rattle.channel.specs.Network.{Network}
-use Rattle.channel.specs.Automaton.{Step, join, Mcasts, Joins, Chan, chan, ChannelExecution}
-use Rattle.channel.specs.Trace.{joins}
+use Rattle.channel.specs.Automaton.{Step, take, join, Mcasts, Joins, Chan, chan, ChannelExecution}
+use Rattle.channel.specs.Trace.{joins, steps-take, steps-single, steps-deliver, steps}
 
 module _ {M : Type 0} (N : Network M) where
+  pub joins-suf : (l : List M) (E : List (Step M)) → Suf E (joins l E)
+  joins-suf [] E = stop
+  joins-suf (a ∷ l) E = suf-trans (back stop) (joins-suf l (join a ∷ E))
+
   pub joins-mcast : (l : List M) {E : List (Step M)} {m : M} → Any (Mcasts m) E → Any (Mcasts m) (joins l E)
   joins-mcast [] h = h
   joins-mcast (a ∷ l) h = joins-mcast l (there h)
@@ -76,3 +82,26 @@ module _ {M : Type 0} (N : Network M) where
   pub joins-inv : (l : List M) (E : List (Step M)) → ChannelExecution N (joins l E) → ChannelExecution N E
   joins-inv [] E v = v
   joins-inv (m ∷ l) E v = joins-inv l (join m ∷ E) v .1
+
+  -- an operation's steps are put before the history
+  pub steps-suf : (w : ChannelState M) (x : ChannelAction M) (E : List (Step M)) → Suf E (steps (N .mail) w x E)
+  steps-suf w (dispatch i m) E = back stop
+  steps-suf w (takeBroadcast i) E = go (nth (w .sent) (w .taken i))
+    where
+      go : (o : Option M) → Suf E (steps-take w i o E)
+      go none = stop
+      go (some m) = suf-trans (back stop) (joins-suf (released (suc (w .taken i)) (w .held i)) (take i m ∷ E))
+  steps-suf w (takeSingle c) E = go (w .flight c)
+    where
+      at : (x : Tagged M) (t : Bool) → Suf E (cond t (join (x .msg) ∷ E) E)
+      at x true = back stop
+      at x false = stop
+
+      go : (o : Option (Tagged M)) → Suf E (steps-single (N .mail) w o E)
+      go none = stop
+      go (some x) = at x (leb (x .mark) (w .taken (N .mail .dest (x .msg))))
+  steps-suf w (deliver i) E = go (w .inbox i)
+    where
+      go : (l : List M) → Suf E (steps-deliver l i E)
+      go [] = stop
+      go (m ∷ r) = back stop

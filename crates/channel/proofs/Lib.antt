@@ -26,3 +26,5 @@ pub mod Postings
 pub mod CallsKeepPromise
 pub mod Prompt
 pub mod Mistakes
+pub mod Arrivals
+pub mod CallsEpoch

@@ -8,11 +8,11 @@ use mathlib.Core.List.{List, [], _∷_}
 use mathlib.Core.Option.{Option, none, some}
 use Prim.Native.Nat.{ℕ, suc, _<_}
 use native.Mathlib.Omega.{arith}
-use Rattle.lists.specs.Histories.{Any, In, any-map, any-nil}
+use Rattle.lists.specs.Histories.{Any, any-nil}
 use Rattle.lists.specs.Queues.{push-any}
 use Rattle.channel.specs.Mail.{Mail}
 use Rattle.channel.specs.State.{Tagged, ChannelState, nth, kept, ChannelAction, dispatch, takeBroadcast, takeSingle, deliver, dispatching, taking, landing, arriving, channelStep}
-use Rattle.channel.specs.Calls.{Posted, done, calls}
+use Rattle.channel.specs.Calls.{Setup, done, calls}
 use Rattle.channel.proofs.Held.{Holds, kept-in}
 
 module _ {M : Type 0} where
@@ -59,15 +59,12 @@ module _ {M : Type 0} (mail : Mail M) where
   step-prompt w (takeSingle c) p = arriving-prompt w c (w .flight c) p
   step-prompt w (deliver i) p = p
 
-module _ {M : Type 0} (mail : Mail M) (cards : ℕ) (inRange : ChannelAction M → Bool) (blank : Posted M) where
-  pub calls-prompt : (xs : List (ChannelAction M)) → Prompt (calls mail cards inRange blank xs)
+module _ {M : Type 0} (C : Setup M) where
+  pub calls-prompt : (xs : List (ChannelAction M)) → Prompt (calls C xs)
   calls-prompt [] i m t h = absurd (any-nil h)
-  calls-prompt (x ∷ xs) i m t h = go (done mail cards inRange blank (calls mail cards inRange blank xs) x) (calls-prompt xs) i m t h
+  calls-prompt (x ∷ xs) i m t h = go (done C (calls C xs) x) (calls-prompt xs) i m t h
     where
-      go : (b : Bool) → Prompt (calls mail cards inRange blank xs)
-          → Prompt (cond b (channelStep mail (calls mail cards inRange blank xs) x) (calls mail cards inRange blank xs))
-      go true p = step-prompt mail (calls mail cards inRange blank xs) x p
+      go : (b : Bool) → Prompt (calls C xs)
+          → Prompt (cond b (channelStep (C .mail) (calls C xs) x) (calls C xs))
+      go true p = step-prompt (C .mail) (calls C xs) x p
       go false p = p
-
-pub holds-in : {M : Type 0} {x : Tagged M} {l : List (Tagged M)} → In x l → Any (Holds (x .msg) (x .mark)) l
-holds-in h = any-map (λ y e. (ap (λ z. z .msg) e, ap (λ z. z .mark) e)) h

@@ -38,16 +38,22 @@ numbering n (takeBroadcast i) = takeBroadcast i
 numbering n (takeSingle c) = takeSingle c
 numbering n (deliver i) = deliver i
 
--- `inRange`: what a call names (card, task, message) is in range. `blank`: what a number names that was never given.
-module _ {M : Type 0} (mail : Mail M) (cards : ℕ) (inRange : ChannelAction M → Bool) (blank : Posted M) where
+-- what the calls are made over
+pub record Setup (M : Type 0) : Type 0 where
+  pub mail : Mail M
+  pub cards : ℕ
+  pub inRange : ChannelAction M → Bool  -- what a call names (card, task, message) is in range
+  pub blank : Posted M  -- what a number names that was never given
+
+module _ {M : Type 0} (C : Setup M) where
   -- a call is done if what it names is in range and nothing refuses it
   abbrev pub done : ChannelState M → ChannelAction M → Bool
-  done w x = inRange x && eqb (channelRefusal mail cards w x) 0
+  done w x = C .inRange x && eqb (channelRefusal (C .mail) (C .cards) w x) 0
 
   -- the state after a list of calls, newest first; "a refused one changes nothing"
   abbrev pub calls : List (ChannelAction M) → ChannelState M
   calls [] = initialChannel
-  calls (x ∷ xs) = cond (done (calls xs) x) (channelStep mail (calls xs) x) (calls xs)
+  calls (x ∷ xs) = cond (done (calls xs) x) (channelStep (C .mail) (calls xs) x) (calls xs)
 
   -- the messages dispatched; number k stands at place k
   abbrev pub posted : List (ChannelAction M) → List (Posted M)
@@ -57,21 +63,21 @@ module _ {M : Type 0} (mail : Mail M) (cards : ℕ) (inRange : ChannelAction M �
   module _ (P : List (Posted M)) where
     -- what number k is
     abbrev pub letter : ℕ → M
-    letter k = (getD P k blank) .body
+    letter k = (getD P k (C .blank)) .body
 
     -- where a message goes: a broadcast to its destinations, another message to its one destination
     abbrev pub numberedMail : Mail ℕ
     numberedMail = record {
-      task = λ k. mail .task (letter k);
-      to = λ k i. cond (mail .multi (letter k)) (mail .to (letter k) i) (eqb i (mail .dest (letter k)));
-      multi = λ k. mail .multi (letter k);
-      dest = λ k. mail .dest (letter k);
+      task = λ k. C .mail .task (letter k);
+      to = λ k i. cond (C .mail .multi (letter k)) (C .mail .to (letter k) i) (eqb i (C .mail .dest (letter k)));
+      multi = λ k. C .mail .multi (letter k);
+      dest = λ k. C .mail .dest (letter k);
     }
 
     abbrev pub numbers : Network ℕ
     numbers = record {
       mail = numberedMail;
-      from = λ k. (getD P k blank) .from;
+      from = λ k. (getD P k (C .blank)) .from;
       single = λ k u i. rw u;
       eqm = eqb;
       eqm-eq = eqb-true;

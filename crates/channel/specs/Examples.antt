@@ -10,7 +10,7 @@ use Rattle.channel.specs.Mail.{Mail}
 use Rattle.channel.specs.State.{ChannelState, ChannelAction, dispatch, takeBroadcast, takeSingle, deliver}
 use Rattle.channel.specs.Refusals.{channelRefusal}
 use Rattle.channel.specs.TotalOrder.{rank}
-use Rattle.channel.specs.Calls.{Posted, calls, posted, numbers, trace}
+use Rattle.channel.specs.Calls.{Setup, calls, posted, numbers, trace}
 
 pub data Note : Type 0 where
   update : Note  -- of register 0, on all three cards, by task 2
@@ -50,8 +50,8 @@ goes partial i = eqb i 1 || eqb i 2
 abbrev notes : Mail Note
 notes = record { task = taskOf; to = goes; multi = several; dest = goal }
 
-abbrev blank : Posted Note
-blank = record { from = 0; body = update }
+abbrev setup : Setup Note
+setup = record { mail = notes; cards = 3; inRange = λ x. true; blank = record { from = 0; body = update } }
 
 -- the calls in their order, put before those made already
 abbrev newest : List (ChannelAction Note) → List (ChannelAction Note) → List (ChannelAction Note)
@@ -59,7 +59,7 @@ newest [] l = l
 newest (x ∷ xs) l = newest xs (x ∷ l)
 
 abbrev after : List (ChannelAction Note) → ChannelState Note
-after xs = calls notes 3 (λ x. true) blank (newest xs [])
+after xs = calls setup (newest xs [])
 
 -- K9: card 2 sends the update; card 0 takes and receives it, then sends "set register 1 to 9"; step 8 brings that to card 1
 abbrev k9 : List (ChannelAction Note)
@@ -126,7 +126,7 @@ abbrev k9-all : List (ChannelAction Note)
 k9-all = newest (k9 ++ (takeBroadcast 1 ∷ deliver 1 ∷ deliver 1 ∷ [])) []
 
 abbrev k9-rank : ℕ → ℕ
-k9-rank = let P = posted notes 3 (λ x. true) blank k9-all in rank (numbers notes 3 (λ x. true) blank P) (trace notes 3 (λ x. true) blank P k9-all)
+k9-rank = let P = posted setup k9-all in rank (numbers setup P) (trace setup P k9-all)
 
 -- eight steps, so an epoch counts 10: 1 * 10 + 0
 pub k9-first : k9-rank 0 ≡ 10
