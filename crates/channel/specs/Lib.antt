@@ -13,3 +13,11 @@ pub mod Dispatch
 pub mod Sized
 pub mod Shows
 pub mod MemoryCalls
+pub mod Network
+pub mod Automaton
+pub mod TotalOrder
+pub mod Trace
+pub mod ContextMulticast
+pub mod Renaming
+pub mod Calls
+pub mod Examples

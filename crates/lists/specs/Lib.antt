@@ -11,3 +11,4 @@ pub mod Keys
 pub mod Sorting
 pub mod Counts
 pub mod Conjunctions
+pub mod Maps
