@@ -4,10 +4,10 @@ use mathlib.Core.Path.{_≡_, refl, sym, _∙_}
 use mathlib.Core.Bool.{true}
 use mathlib.Core.List.{List}
 use native.Mathlib.Omega.{arith}
-use lib.ListN.{length, getD, set, length-set}
+use lib.ListN.{replicate, length-replicate, length, getD, set, length-set}
 use lib.Seq.{getD-set-same, getD-set-other}
 use Rattle.lists.specs.Tests.{and-intro}
-use Rattle.lists.specs.Listings.{listing, listing-zero, listing-cons, listing-length}
+use Rattle.lists.specs.Listings.{listing}
 use Rattle.channel.specs.State.{initialChannel}
 use Rattle.channel.specs.Layout.{takenWord, headWord, countWord, heldWord, flightBlock}
 use Rattle.channel.specs.Begin.{sizesFit, begun}
@@ -17,15 +17,15 @@ use Rattle.channel.specs.Shows.{inboxOf, heldOf, flightOf, Shows}
 use Rattle.channel.proofs.Fitting.{Fit}
 
 abbrev blank : List ℕ
-blank = listing (λ k. 0) 4808
+blank = replicate 4808 0
 
-zeros : (n a : ℕ) → getD (listing {A = ℕ} (λ k. 0) n) a 0 ≡ 0
-zeros zero a = rw (listing-zero {A = ℕ} (λ k. 0))
-zeros (suc n) zero = rw (listing-cons {A = ℕ} (λ k. 0) n)
-zeros (suc n) (suc a) = rw (listing-cons {A = ℕ} (λ k. 0) n) (zeros n a)
+zeros : (n a : ℕ) → getD (replicate {A = ℕ} n 0) a 0 ≡ 0
+zeros zero a = refl
+zeros (suc n) zero = refl
+zeros (suc n) (suc a) = zeros n a
 
 blank-long : length blank ≡ 4808
-blank-long = listing-length {A = ℕ} (λ k. 0) 4808
+blank-long = length-replicate {A = ℕ} 4808 0
 
 module _ (cards tasks registers : ℕ) (ok : sizesFit cards tasks registers ≡ true) where
   abbrev ws : List ℕ
@@ -33,7 +33,7 @@ module _ (cards tasks registers : ℕ) (ok : sizesFit cards tasks registers ≡ 
 
   pub begun-long : length ws ≡ 4808
   unfolding begun
-  begun-long = simp (length-set, listing-length)
+  begun-long = simp (length-set, blank-long)
 
   -- every other word is zero
   nothing : (a : ℕ) → 3 ≤ a → getD ws a 0 ≡ 0

@@ -21,7 +21,8 @@ use Rattle.channel.proofs.Blocks.{letter-cong, letter-same}
 use Rattle.channel.proofs.View.{pushed-word, pushed-count, pushed-head, pushed-block, popped-word, popped-count, popped-head}
 use Rattle.channel.proofs.Sending.{kind-some}
 use Rattle.channel.proofs.Facts.{cards-most}
-use Rattle.channel.proofs.Fitting.{SameSizes, letter=, block-same}
+use Rattle.channel.specs.MemoryCalls.{SameSizes}
+use Rattle.channel.proofs.Fitting.{letter=, block-same}
 
 -- ---- a fitting letter
 

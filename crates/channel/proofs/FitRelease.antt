@@ -23,7 +23,8 @@ use Rattle.channel.specs.Shows.{heldOf}
 use Rattle.channel.proofs.Blocks.{word-other}
 use Rattle.channel.proofs.View.{pushed-word}
 use Rattle.channel.proofs.Release.{heldFirst, fewer, Swept, y, at-k, joins-is, stays-is, space, sweeps-swept, end, swept-all, released-is, release-word}
-use Rattle.channel.proofs.Fitting.{SameSizes, fits-same}
+use Rattle.channel.specs.MemoryCalls.{SameSizes}
+use Rattle.channel.proofs.Fitting.{fits-same}
 use Rattle.channel.proofs.FitMoves.{block-letter, BoxFit, box-same, push-sizes, push-box, HeldFit, held-same, held-put}
 
 pub sizes-trans : (us vs ws : List ℕ) → SameSizes us vs → SameSizes vs ws → SameSizes us ws

@@ -19,7 +19,8 @@ use Rattle.channel.specs.Sized.{blockFits, flightFits, headFits}
 use Rattle.channel.proofs.Destinations.{sole-member, sole-present}
 use Rattle.channel.proofs.Facts.{Sized, cards-most}
 use Rattle.channel.proofs.Frame.{Outside, outside-word}
-use Rattle.channel.proofs.Fitting.{CardFit, Fit, SameSizes, same-cards, same-tasks, flight-same, broadcast-same, card-same}
+use Rattle.channel.specs.MemoryCalls.{SameSizes}
+use Rattle.channel.proofs.Fitting.{CardFit, Fit, same-cards, same-tasks, flight-same, broadcast-same, card-same}
 use Rattle.channel.proofs.FitMoves.{fits-to, fits-small, block-letter}
 
 -- a message in flight
@@ -87,3 +88,13 @@ card-keeps us ws i card o f g =
         go : Dec (j ≡ i) → CardFit us (madeOf ws) j
         go (yes e) = subst (CardFit us (madeOf ws)) (sym e) g
         go (no n) = card-same us ws s (madeOf ws) j (λ a p q. outside-word i us ws o j a n p q) (f .card j c)
+
+-- ---- what a call keeps of a memory: it is well sized, of the same length and of the same sizes
+
+pub record Kept (us ws : List ℕ) : Type 0 where
+  pub fit : Fit us
+  pub long : length us ≡ 4808
+  pub sizes : SameSizes us ws
+
+pub unchanged : (ws : List ℕ) → length ws ≡ 4808 → Fit ws → Kept ws ws
+unchanged ws l f = record { fit = f; long = l; sizes = record { cards = refl; tasks = refl; registers = refl } }

@@ -11,10 +11,11 @@ use Rattle.lists.specs.Tests.{and-intro}
 use Rattle.lists.specs.Conjunctions.{and-three, and-four, and-five}
 use Rattle.lists.specs.Every.{each, each-at, each-of}
 use Rattle.channel.specs.declared.Letter.{Letter}
-use Rattle.channel.specs.Layout.{cardsWord, tasksWord, registersWord, takenWord, headWord, countWord, heldWord, heldBlock, flightBlock, broadcastBlock, cardsOf, tasksOf, madeOf, takenOf, headOf, countOf, heldCountOf, placeOf}
+use Rattle.channel.specs.Layout.{takenWord, headWord, countWord, heldWord, heldBlock, flightBlock, broadcastBlock, cardsOf, tasksOf, madeOf, takenOf, headOf, countOf, heldCountOf, placeOf}
 use Rattle.channel.specs.Letters.{letterAt, kindAt, addressed, fits}
 use Rattle.channel.specs.TakeSingle.{noFlight}
 use Rattle.channel.specs.Sized.{blockFits, inboxFits, heldFits, flightFits, broadcastFits, countsFit, cardFits, recentFits, headFits, wellSized}
+use Rattle.channel.specs.MemoryCalls.{SameSizes}
 use Rattle.channel.proofs.Blocks.{letter-cong}
 use Rattle.channel.proofs.Facts.{cards-words, tasks-words, registers-words}
 
@@ -84,11 +85,6 @@ of-fit ws f =
     (each-of (min (madeOf ws) 64) (recentFits ws) (λ k h. f .recent k (omega arith) (omega arith)))
 
 -- ---- words that agree
-
-pub record SameSizes (us ws : List ℕ) : Type 0 where
-  pub cards : getD us cardsWord 0 ≡ getD ws cardsWord 0
-  pub tasks : getD us tasksWord 0 ≡ getD ws tasksWord 0
-  pub registers : getD us registersWord 0 ≡ getD ws registersWord 0
 
 module _ (us ws : List ℕ) (s : SameSizes us ws) where
   pub same-cards : cardsOf us ≡ cardsOf ws

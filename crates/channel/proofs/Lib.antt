@@ -53,3 +53,5 @@ pub mod Prompt
 pub mod Mistakes
 pub mod Arrivals
 pub mod CallsEpoch
+pub mod CallLaws
+pub mod RunLaw

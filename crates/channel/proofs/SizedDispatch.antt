@@ -29,9 +29,10 @@ use Rattle.channel.proofs.Facts.{cards-most, tasks-most}
 use Rattle.channel.proofs.Answering.{picked}
 use Rattle.channel.proofs.Destinations.{single-of}
 use Rattle.channel.proofs.DispatchLaw.{fits-task}
-use Rattle.channel.proofs.Fitting.{CardFit, Fit, SameSizes, same-cards, same-tasks, fits-same, flight-same, broadcast-same, card-same}
+use Rattle.channel.specs.MemoryCalls.{SameSizes}
+use Rattle.channel.proofs.Fitting.{CardFit, Fit, same-cards, same-tasks, fits-same, flight-same, broadcast-same, card-same}
 use Rattle.channel.proofs.FitMoves.{fits-small, put-letter, put-fits}
-use Rattle.channel.proofs.FitSized.{head-same}
+use Rattle.channel.proofs.FitSized.{Kept, unchanged, head-same}
 
 or-intro : (a : Bool) {b : Bool} → b ≡ true → (a || b) ≡ true
 or-intro true e = refl
@@ -77,17 +78,19 @@ module _ (ws : List ℕ) (long : length ws ≡ 4808) (f : Fit ws) (l : Letter) (
           rw e (or-intro (noFlight us t) (and-intro (and-intro b (rw y (eqb-refl t))) (rw y o)))
       go (no n) = flight-same us ws sizes d (λ a p q. word a (λ k r. omega arith)) ∙ f .flight d h
 
-  pub flown-fit : Fit us × (length us ≡ 4808)
+  pub flown-fit : Kept us ws
   flown-fit =
-      let m : madeOf us ≡ madeOf ws = word 3 (λ k h. omega arith) in (
-        record {
+      let m : madeOf us ≡ madeOf ws = word 3 (λ k h. omega arith) in
+      record {
+        fit = record {
           sizes = head-same us ws sizes m ∙ f .sizes;
           card = λ j c. let q = cards-most us in rw m (card-same us ws sizes (madeOf ws) j (λ a p r. word a (λ k h. omega arith)) (f .card j (rw (← same-cards us ws sizes) c)));
           flight = λ d h. slot-fit d (rw (← same-tasks us ws sizes) h);
           recent = λ k p h. rw m (broadcast-same us ws sizes (madeOf ws - k) (λ a u v. word a (λ b r. omega (arith, t16))) ∙ f .recent k (rw (← m) p) h);
-        },
-        length-stored ws (flightBlock t) l tag ∙ long,
-      )
+        };
+        long = length-stored ws (flightBlock t) l tag ∙ long;
+        sizes = sizes;
+      }
 
 -- ---- a broadcast more
 
@@ -150,55 +153,56 @@ module _ (ws : List ℕ) (long : length ws ≡ 4808) (f : Fit ws) (l : Letter) (
       let e : n - suc k ≡ madeOf ws - k = omega arith in
       rw e (broadcast-same cs ws csizes (madeOf ws - k) (λ a u v. cword a (omega arith) (λ b r. omega arith)) ∙ f .recent k (omega arith) (omega arith))
 
-  pub cast-fit : Fit cs × (length cs ≡ 4808)
-  cast-fit = (
-    record {
+  pub cast-fit : Kept cs ws
+  cast-fit = record {
+    fit = record {
       sizes = head-fit;
       card = λ j c. rw made (card-fit j (rw (← same-cards cs ws csizes) c));
       flight = λ t h. let b = tasks-most cs in
           flight-same cs ws csizes t (λ a p q. cword a (omega arith) (λ k r. omega arith)) ∙ f .flight t (rw (← same-tasks cs ws csizes) h);
       recent = λ k p h. rw made (recent-fit k (rw (← made) p) h);
-    },
-    length-set vs madeWord n ∙ length-stored ws slot l n ∙ long,
-  )
+    };
+    long = length-set vs madeWord n ∙ length-stored ws slot l n ∙ long;
+    sizes = csizes;
+  }
 
 -- ---- step 6
 
 module _ (ws : List ℕ) (long : length ws ≡ 4808) (f : Fit ws) where
-  fly-keeps : (i : ℕ) (l : Letter) → several (l .to) ≡ false → Fit (flyMemory ws i l) × (length (flyMemory ws i l) ≡ 4808)
+  fly-keeps : (i : ℕ) (l : Letter) → several (l .to) ≡ false → Kept (flyMemory ws i l) ws
   unfolding flyMemory flyAnswer isDone
   fly-keeps i l alone = go (isDone (flyAnswer ws l)) refl
     where
       us : List ℕ
       us = stored ws (flightBlock (l .message .task .0)) l (takenOf ws i)
 
-      go : (b : Bool) → isDone (flyAnswer ws l) ≡ b → Fit (cond b us ws) × (length (cond b us ws) ≡ 4808)
+      go : (b : Bool) → isDone (flyAnswer ws l) ≡ b → Kept (cond b us ws) ws
       go true e = flown-fit ws long f l (takenOf ws i) (picked (fits ws l) _ IllSized refl e .0) alone
-      go false e = (f, long)
+      go false e = unchanged ws long f
 
-  cast-keeps : (l : Letter) → several (l .to) ≡ true → Fit (castMemory ws l) × (length (castMemory ws l) ≡ 4808)
+  cast-keeps : (l : Letter) → several (l .to) ≡ true → Kept (castMemory ws l) ws
   unfolding castMemory castAnswer isDone
   cast-keeps l many = go (isDone (castAnswer ws l)) refl
     where
       us : List ℕ
       us = set (stored ws (broadcastBlock (madeOf ws + 1)) l (madeOf ws + 1)) madeWord (madeOf ws + 1)
 
-      go : (b : Bool) → isDone (castAnswer ws l) ≡ b → Fit (cond b us ws) × (length (cond b us ws) ≡ 4808)
+      go : (b : Bool) → isDone (castAnswer ws l) ≡ b → Kept (cond b us ws) ws
       go true e =
           let a = picked (near ws) _ FarBehind refl e in
           let b = picked (fits ws l) _ IllSized refl (a .1) in
           let c = picked (ltb (madeOf ws) 65535) Done IllSized refl (b .1) in
           cast-fit ws long f l (b .0) many (a .0) (ltb-true (madeOf ws) 65535 (c .0))
-      go false e = (f, long)
+      go false e = unchanged ws long f
 
-  pub dispatch-keeps : (card : Card) (m : Message) (to : ℕ) → Fit (dispatchMemory ws card m to) × (length (dispatchMemory ws card m to) ≡ 4808)
+  pub dispatch-keeps : (card : Card) (m : Message) (to : ℕ) → Kept (dispatchMemory ws card m to) ws
   unfolding dispatchMemory
   dispatch-keeps card m to = go (ltb (card .0) (cardsOf ws)) (several to) refl
     where
       l : Letter
       l = letterOf card m to
 
-      go : (b c : Bool) → several to ≡ c → Fit (cond b (cond c (castMemory ws l) (flyMemory ws (card .0) l)) ws) × (length (cond b (cond c (castMemory ws l) (flyMemory ws (card .0) l)) ws) ≡ 4808)
+      go : (b c : Bool) → several to ≡ c → Kept (cond b (cond c (castMemory ws l) (flyMemory ws (card .0) l)) ws) ws
       go true true e = cast-keeps l e
       go true false e = fly-keeps (card .0) l e
-      go false c e = (f, long)
+      go false c e = unchanged ws long f

@@ -15,7 +15,7 @@ use Rattle.channel.proofs.Facts.{cards-most}
 use Rattle.channel.proofs.Receiving.{popped-outside}
 use Rattle.channel.proofs.Fitting.{Fit}
 use Rattle.channel.proofs.FitMoves.{pop-sizes, pop-box, held-same}
-use Rattle.channel.proofs.FitSized.{card-keeps}
+use Rattle.channel.proofs.FitSized.{Kept, unchanged, card-keeps}
 
 module _ (ws : List ℕ) (long : length ws ≡ 4808) (f : Fit ws) (card : Card) where
   abbrev i : ℕ
@@ -39,14 +39,15 @@ module _ (ws : List ℕ) (long : length ws ≡ 4808) (f : Fit ws) (card : Card) 
         helds = rw ed (held-same (popped ws i) ws i (heldCountOf ws i) (pop-sizes ws i long c8 n e) (λ a u v. p a (omega arith) (omega arith)) (x .helds));
       })
 
-  pub receive-keeps : Fit (receiveMemory ws card) × (length (receiveMemory ws card) ≡ 4808)
+  pub receive-keeps : Kept (receiveMemory ws card) ws
   unfolding receiveMemory popped
   receive-keeps = go (ltb i (cardsOf ws)) refl
     where
-      some-or-none : i < cardsOf ws → (n : ℕ) → countOf ws i ≡ n → Fit (popped ws i) × (length (popped ws i) ≡ 4808)
-      some-or-none c zero e = rw e (f, long)
-      some-or-none c (suc n) e = let c8 : i < 8 = omega (arith, cards-most ws) in (popped-fit c n e, popped-long ws i long c8 n e)
+      some-or-none : i < cardsOf ws → (n : ℕ) → countOf ws i ≡ n → Kept (popped ws i) ws
+      some-or-none c zero e = rw e (unchanged ws long f)
+      some-or-none c (suc n) e = let c8 : i < 8 = omega (arith, cards-most ws) in
+          record { fit = popped-fit c n e; long = popped-long ws i long c8 n e; sizes = pop-sizes ws i long c8 n e }
 
-      go : (b : Bool) → ltb i (cardsOf ws) ≡ b → Fit (cond b (popped ws i) ws) × (length (cond b (popped ws i) ws) ≡ 4808)
+      go : (b : Bool) → ltb i (cardsOf ws) ≡ b → Kept (cond b (popped ws i) ws) ws
       go true e = some-or-none (ltb-true i (cardsOf ws) e) (countOf ws i) refl
-      go false e = (f, long)
+      go false e = unchanged ws long f

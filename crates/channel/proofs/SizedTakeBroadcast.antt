@@ -24,10 +24,11 @@ use Rattle.channel.proofs.Release.{release-low}
 use Rattle.channel.proofs.Facts.{cards-most}
 use Rattle.channel.proofs.Taking.{numbered, one-word, one-long, one-room, begun-out, begun-in, joined-shows}
 use Rattle.channel.proofs.TakeBroadcastLaw.{inbox-length, push-length, Took, took}
-use Rattle.channel.proofs.Fitting.{Fit, SameSizes, fits-same}
+use Rattle.channel.specs.MemoryCalls.{SameSizes}
+use Rattle.channel.proofs.Fitting.{Fit, fits-same}
 use Rattle.channel.proofs.FitMoves.{block-letter, BoxFit, HeldFit, box-same, push-sizes, push-box, held-same}
 use Rattle.channel.proofs.FitRelease.{sizes-trans, release-few, release-box, release-fit}
-use Rattle.channel.proofs.FitSized.{sized-of, card-keeps}
+use Rattle.channel.proofs.FitSized.{Kept, unchanged, outside-sizes, sized-of, card-keeps}
 
 -- the next broadcast that a card takes fits
 pub next-fits : (ws : List ℕ) → Fit ws → (i : ℕ) → i < cardsOf ws → takenOf ws i < madeOf ws → fits ws (nextLetter ws i) ≡ true
@@ -100,7 +101,7 @@ module _ (ws : List ℕ) (long : length ws ≡ 4808) (f : Fit ws) (card : Card) 
   abbrev i : ℕ
   i = card .0
 
-  taken-fit : Took ws card → Fit (joined ws i (takenOf ws i + 1) (nextLetter ws i) (nextThere ws i)) × (length (joined ws i (takenOf ws i + 1) (nextLetter ws i) (nextThere ws i)) ≡ 4808)
+  taken-fit : Took ws card → Kept (joined ws i (takenOf ws i + 1) (nextLetter ws i) (nextThere ws i)) ws
   taken-fit k =
       let n : ℕ = takenOf ws i + 1 in
       let l : Letter = nextLetter ws i in
@@ -114,8 +115,9 @@ module _ (ws : List ℕ) (long : length ws ≡ 4808) (f : Fit ws) (card : Card) 
       let t : takenOf us i ≡ takenOf ws i + 1 = j .taken in
       let c : countOf us i ≡ countOf ws i + cond (nextThere ws i) 1 0 + length (released n (heldOf ws i)) =
       sym (inbox-length us i) ∙ ap length (j .inbox) ∙ length-append (push (nextThere ws i) l (inboxOf ws i)) (released n (heldOf ws i))
-      ∙ ap (λ (q : ℕ). q + length (released n (heldOf ws i))) (push-length (nextThere ws i) l (inboxOf ws i) ∙ ap (λ (q : ℕ). q + cond (nextThere ws i) 1 0) (inbox-length ws i)) in (
-        card-keeps us ws i (k .there) (j .out) f (record {
+      ∙ ap (λ (q : ℕ). q + length (released n (heldOf ws i))) (push-length (nextThere ws i) l (inboxOf ws i) ∙ ap (λ (q : ℕ). q + cond (nextThere ws i) 1 0) (inbox-length ws i)) in
+      record {
+        fit = card-keeps us ws i (k .there) (j .out) f (record {
           behind = rw t (omega arith);
           near = rw t (omega arith);
           head = rw (g .head) (x .head);
@@ -123,16 +125,16 @@ module _ (ws : List ℕ) (long : length ws ≡ 4808) (f : Fit ws) (card : Card) 
           held = g .few;
           inbox = g .box;
           helds = g .fit;
-        }),
-        j .out .long,
-      )
+        });
+        long = j .out .long;
+        sizes = outside-sizes i us ws (j .out);
+      }
 
-  pub take-keeps : Fit (takeMemory ws card) × (length (takeMemory ws card) ≡ 4808)
+  pub take-keeps : Kept (takeMemory ws card) ws
   unfolding takeMemory
   take-keeps = go (isDone (takeAnswer ws card)) refl
     where
       go : (b : Bool) → isDone (takeAnswer ws card) ≡ b
-          → Fit (cond b (joined ws i (takenOf ws i + 1) (nextLetter ws i) (nextThere ws i)) ws)
-          × (length (cond b (joined ws i (takenOf ws i + 1) (nextLetter ws i) (nextThere ws i)) ws) ≡ 4808)
+          → Kept (cond b (joined ws i (takenOf ws i + 1) (nextLetter ws i) (nextThere ws i)) ws) ws
       go true e = taken-fit (took ws (sized-of ws long f) card e)
-      go false e = (f, long)
+      go false e = unchanged ws long f

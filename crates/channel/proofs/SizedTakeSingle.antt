@@ -21,10 +21,11 @@ use Rattle.channel.proofs.Facts.{cards-most, tasks-most}
 use Rattle.channel.proofs.Frame.{Outside}
 use Rattle.channel.proofs.Landing.{vacated, vacated-word, vacated-slot}
 use Rattle.channel.proofs.TakeSingleLaw.{Landed, landed-knew}
-use Rattle.channel.proofs.Fitting.{Fit, SameSizes, same-cards, same-tasks, fits-same, flight-same, broadcast-same, card-same}
+use Rattle.channel.specs.MemoryCalls.{SameSizes}
+use Rattle.channel.proofs.Fitting.{Fit, same-cards, same-tasks, fits-same, flight-same, broadcast-same, card-same}
 use Rattle.channel.proofs.FitMoves.{push-sizes, push-box, box-same, held-same, held-put}
 use Rattle.channel.proofs.FitRelease.{sizes-trans}
-use Rattle.channel.proofs.FitSized.{FlightLetter, flight-letter, head-same, outside-sizes, card-keeps}
+use Rattle.channel.proofs.FitSized.{Kept, unchanged, FlightLetter, flight-letter, head-same, outside-sizes, card-keeps}
 
 -- ---- task t's slot made empty
 
@@ -90,7 +91,7 @@ module _ (ws : List ℕ) (long : length ws ≡ 4808) (f : Fit ws) (t : ℕ) (k :
   here : i < cardsOf us
   here = rw (same-cards us ws (vacated-sizes ws long f t t16)) (letter .present)
 
-  joins-fit : countOf ws i < 48 → Fit (pushed us i l) × (length (pushed us i l) ≡ 4808)
+  joins-fit : countOf ws i < 48 → Kept (pushed us i l) ws
   joins-fit room =
       let r : countOf us i < 48 = rw (vacated-word ws t t16 (countWord i) (omega arith)) room in
       let p = pushed-word us i l whole c8 r in
@@ -101,8 +102,9 @@ module _ (ws : List ℕ) (long : length ws ≡ 4808) (f : Fit ws) (t : ℕ) (k :
       let et : takenOf (pushed us i l) i ≡ takenOf us i = p (takenWord i) (omega arith) (λ q w. omega arith) in
       let ed : heldCountOf (pushed us i l) i ≡ heldCountOf us i = p (heldWord i) (omega arith) (λ q w. omega arith) in
       let o : Outside i (pushed us i l) us =
-      record { long = pushed-long us i l whole c8 r; low = λ a h. p a (omega arith) (λ q g. omega arith); high = λ a h. p a (omega arith) (λ q g. omega arith) } in (
-        card-keeps (pushed us i l) us i here o fit (record {
+      record { long = pushed-long us i l whole c8 r; low = λ a h. p a (omega arith) (λ q g. omega arith); high = λ a h. p a (omega arith) (λ q g. omega arith) } in
+      record {
+        fit = card-keeps (pushed us i l) us i here o fit (record {
           behind = rw et (x .behind);
           near = rw et (x .near);
           head = rw (pushed-head us i l whole c8 r) (x .head);
@@ -110,11 +112,12 @@ module _ (ws : List ℕ) (long : length ws ≡ 4808) (f : Fit ws) (t : ℕ) (k :
           held = rw ed few;
           inbox = push-box us i l whole c8 r (fits-same (pushed us i l) ws y l ∙ letter .fit) (letter .there) (x .inbox);
           helds = rw ed (held-same (pushed us i l) us i (heldCountOf us i) z (λ a u v. p a (omega arith) (λ q w. omega arith)) (x .helds));
-        }),
-        o .long,
-      )
+        });
+        long = o .long;
+        sizes = y;
+      }
 
-  waits-fit : heldCountOf ws i < 16 → Fit (heldMore us i l (flightTag ws t)) × (length (heldMore us i l (flightTag ws t)) ≡ 4808)
+  waits-fit : heldCountOf ws i < 16 → Kept (heldMore us i l (flightTag ws t)) ws
   waits-fit room =
       let tag : ℕ = flightTag ws t in
       let vs : List ℕ = heldMore us i l tag in
@@ -128,8 +131,9 @@ module _ (ws : List ℕ) (long : length ws ≡ 4808) (f : Fit ws) (t : ℕ) (k :
       let et : takenOf vs i ≡ takenOf us i = p (takenWord i) (omega arith) (λ q w. omega arith) in
       let eh : headOf vs i ≡ headOf us i = p (headWord i) (omega arith) (λ q w. omega arith) in
       let ec : countOf vs i ≡ countOf us i = p (countWord i) (omega arith) (λ q w. omega arith) in
-      let ed : heldCountOf vs i ≡ heldCountOf us i + 1 = more-count us i l tag c8 whole r in (
-        card-keeps vs us i here o fit (record {
+      let ed : heldCountOf vs i ≡ heldCountOf us i + 1 = more-count us i l tag c8 whole r in
+      record {
+        fit = card-keeps vs us i here o fit (record {
           behind = rw et (x .behind);
           near = rw et (x .near);
           head = rw eh (x .head);
@@ -138,24 +142,25 @@ module _ (ws : List ℕ) (long : length ws ≡ 4808) (f : Fit ws) (t : ℕ) (k :
           inbox = box-same vs us i z eh ec (λ a u v. p a (omega arith) (λ q w. omega arith)) (x .inbox);
           helds = rw (ed, add-one (heldCountOf us i)) (held-put vs us i (heldCountOf us i) l tag z r c8 whole (λ a u v. p a (omega arith) (λ q w. omega arith))
               (more-block us i l tag c8 whole r) (fits-same vs ws y l ∙ letter .fit) (letter .one) (letter .there) (x .helds));
-        }),
-        o .long,
-      )
+        });
+        long = o .long;
+        sizes = y;
+      }
 
   pub landed-fit : (b : Bool) → cond b (countOf ws i) 0 < 48 → cond b 0 (heldCountOf ws i) < 16
-      → Fit (landed ws t i l (flightTag ws t) b) × (length (landed ws t i l (flightTag ws t) b) ≡ 4808)
+      → Kept (landed ws t i l (flightTag ws t) b) ws
   unfolding landed
   landed-fit true p q = joins-fit p
   landed-fit false p q = waits-fit q
 
 module _ (ws : List ℕ) (long : length ws ≡ 4808) (f : Fit ws) (task : Task) where
-  pub single-keeps : Fit (singleMemory ws task) × (length (singleMemory ws task) ≡ 4808)
+  pub single-keeps : Kept (singleMemory ws task) ws
   unfolding singleMemory
   single-keeps = go (isDone (singleAnswer ws task)) refl
     where
       us : List ℕ
       us = landed ws (task .0) (flightTo ws (task .0)) (flightLetter ws (task .0)) (flightTag ws (task .0)) (joinsAt ws (flightTo ws (task .0)) (flightTag ws (task .0)))
 
-      go : (b : Bool) → isDone (singleAnswer ws task) ≡ b → Fit (cond b us ws) × (length (cond b us ws) ≡ 4808)
+      go : (b : Bool) → isDone (singleAnswer ws task) ≡ b → Kept (cond b us ws) ws
       go true e = let k = landed-knew ws task e in landed-fit ws long f (task .0) k (joinsAt ws (flightTo ws (task .0)) (flightTag ws (task .0))) (k .room-in) (k .room-held)
-      go false e = (f, long)
+      go false e = unchanged ws long f

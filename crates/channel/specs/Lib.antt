@@ -12,7 +12,6 @@ pub mod TakeSingle
 pub mod Dispatch
 pub mod Sized
 pub mod Shows
-pub mod MemoryCalls
 pub mod Network
 pub mod Automaton
 pub mod TotalOrder
@@ -21,3 +20,4 @@ pub mod ContextMulticast
 pub mod Renaming
 pub mod Calls
 pub mod Examples
+pub mod MemoryCalls
