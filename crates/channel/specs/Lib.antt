@@ -11,3 +11,13 @@ pub mod TakeBroadcast
 pub mod TakeSingle
 pub mod Dispatch
 pub mod Sized
+pub mod Shows
+pub mod Network
+pub mod Automaton
+pub mod TotalOrder
+pub mod Trace
+pub mod ContextMulticast
+pub mod Renaming
+pub mod Calls
+pub mod Examples
+pub mod MemoryCalls

@@ -102,6 +102,15 @@ module _ {A : Type 0} where
   at-order (before p) (now q) = inr (inl p)
   at-order (before p) (before q) = at-order p q
 
+  -- two moments with equally much before them are one
+  pub at-one : {P Q : A → Type 0} {B C E : List A} → At P B E → At Q C E → length B ≡ length C → (e : A) × P e × Q e
+  at-one {P} {Q} {B} {C} x y l = go (at-order x y)
+    where
+      go : ((e : A) × P e × Q e) ⊎ (At P B C ⊎ At Q C B) → (e : A) × P e × Q e
+      go (inl w) = w
+      go (inr (inl w)) = let k = at-length w in absurd (omega arith)
+      go (inr (inr w)) = let k = at-length w in absurd (omega arith)
+
 pub suf-map : {A B : Type 0} (f : A → B) {C E : List A} → Suf C E → Suf (map f C) (map f E)
 suf-map f stop = stop
 suf-map f (back s) = back (suf-map f s)

@@ -9,3 +9,6 @@ pub mod Queues
 pub mod Filters
 pub mod Keys
 pub mod Sorting
+pub mod Counts
+pub mod Conjunctions
+pub mod Maps

@@ -1,0 +1,198 @@
+-- Each call on a well-sized memory does and answers what the idealised channel does and answers.
+use Prim.Native.Nat.{ℕ}
+use mathlib.Core.Path.{_≡_, refl, sym, ap, _∙_}
+use mathlib.Core.Bool.{Bool, true, false, cond, _&&_}
+use mathlib.Core.Logic.{_≢_}
+use mathlib.Core.List.{List}
+use native.Mathlib.Omega.{arith}
+use borrow.Author.Tests.{eqb-true, ne-eqb}
+use lib.Dec.{eqb, ltb}
+use lib.ListN.{length}
+use Rattle.names.specs.declared.Card.{Card}
+use Rattle.names.specs.declared.Task.{Task}
+use Rattle.names.specs.declared.Message.{Message}
+use Rattle.channel.specs.declared.Letter.{Letter}
+use Rattle.channel.specs.declared.Answer.{Answer}
+use Rattle.channel.specs.declared.Answer.the-variants.{NoCard}
+use Rattle.channel.specs.declared.Received.the-variants.{Got, NoSuchCard, Empty}
+use Rattle.channel.specs.State.{ChannelState, ChannelAction, dispatch, takeBroadcast, takeSingle, deliver, channelStep}
+use Rattle.channel.specs.Refusals.{otherwise, channelRefusal}
+use Rattle.channel.specs.Layout.{cardsOf, tasksOf, countOf}
+use Rattle.channel.specs.Letters.{several, fits}
+use Rattle.channel.specs.Answers.{answerNumber, receivedNumber, isDone}
+use Rattle.channel.specs.Inbox.{gotOf, popped, receiveAnswer, receiveMemory}
+use Rattle.channel.specs.TakeBroadcast.{takeAnswer, takeMemory}
+use Rattle.channel.specs.TakeSingle.{singleAnswer, singleMemory}
+use Rattle.channel.specs.Dispatch.{castAnswer, castMemory, flyAnswer, flyMemory, letterOf, dispatchAnswer, dispatchMemory}
+use Rattle.channel.specs.Sized.{wellSized}
+use Rattle.channel.specs.Shows.{letterMail, Shows}
+use Rattle.channel.specs.Calls.{done}
+use Rattle.channel.specs.MemoryCalls.{Call, dispatchCall, takeBroadcastCall, takeSingleCall, receiveCall, callNumber, callMemory, actionOf, orElse, absent, unfit, callRefusal, letters, CallFollows}
+use Rattle.channel.proofs.Facts.{Sized}
+use Rattle.channel.proofs.Answering.{done-number}
+use Rattle.channel.proofs.Receiving.{receive-number, receive-left}
+use Rattle.channel.proofs.TakeBroadcastLaw.{take-number, take-left}
+use Rattle.channel.proofs.TakeSingleLaw.{single-number, single-left}
+use Rattle.channel.proofs.DispatchLaw.{dispatch-number, dispatch-left}
+use Rattle.channel.proofs.Fitting.{Fit, fit-of, of-fit}
+use Rattle.channel.proofs.FitSized.{sized-of}
+use Rattle.channel.proofs.SizedReceive.{receive-keeps}
+use Rattle.channel.proofs.SizedTakeBroadcast.{take-keeps}
+use Rattle.channel.proofs.SizedTakeSingle.{single-keeps}
+use Rattle.channel.proofs.SizedDispatch.{dispatch-keeps}
+
+-- ---- refusals
+
+-- done: nothing refuses it
+pub refused-is : (ms : List ℕ) (w : ChannelState Letter) (x : ChannelAction Letter) → done (letters ms) w x ≡ eqb (callRefusal ms w x) 0
+unfolding callRefusal
+refused-is ms w x = go (absent ms x) (channelRefusal letterMail (cardsOf ms) w x) (unfit ms x)
+  where
+    go : (a r u : ℕ) → (eqb a 0 && eqb u 0 && eqb r 0) ≡ eqb (orElse a (orElse r u)) 0
+    go a r u = first (eqb a 0) refl
+      where
+        second : (b : Bool) → eqb r 0 ≡ b → (eqb u 0 && b) ≡ eqb (cond b u r) 0
+        second true e = last (eqb u 0) refl
+          where
+            last : (c : Bool) → eqb u 0 ≡ c → (c && true) ≡ eqb u 0
+            last true q = sym q
+            last false q = sym q
+        second false e = last (eqb u 0)
+          where
+            last : (c : Bool) → (c && false) ≡ eqb r 0
+            last true = sym e
+            last false = sym e
+
+        first : (b : Bool) → eqb a 0 ≡ b → (b && eqb u 0 && eqb r 0) ≡ eqb (cond b (orElse r u) a) 0
+        first true e = second (eqb r 0) refl
+        first false e = sym e
+
+-- a card or a task that is absent, else what else refuses it
+present : (b : Bool) (r n : ℕ) → n ≢ 0 → cond b r n ≡ orElse (cond b 0 n) r
+present true r n h = refl
+present false r n h = rw (ne-eqb n 0 h)
+
+fine : (r : ℕ) → r ≡ orElse r 0
+fine r = go (eqb r 0) refl
+  where
+    go : (b : Bool) → eqb r 0 ≡ b → r ≡ cond b 0 r
+    go true e = eqb-true r 0 e
+    go false e = refl
+
+-- ---- a refused call leaves the memory
+
+-- an answer's number is 0 only for `Done`
+left-alone : (ws us : List ℕ) (a : Answer) → answerNumber a ≢ 0 → cond (isDone a) us ws ≡ ws
+left-alone ws us a h = rw (done-number a, ne-eqb (answerNumber a) 0 h)
+
+cast-alone : (ws : List ℕ) (l : Letter) → answerNumber (castAnswer ws l) ≢ 0 → castMemory ws l ≡ ws
+unfolding castMemory
+cast-alone ws l h = left-alone ws _ (castAnswer ws l) h
+
+fly-alone : (ws : List ℕ) (i : ℕ) (l : Letter) → answerNumber (flyAnswer ws l) ≢ 0 → flyMemory ws i l ≡ ws
+unfolding flyMemory
+fly-alone ws i l h = left-alone ws _ (flyAnswer ws l) h
+
+-- ---- the four calls
+
+module _ (ws : List ℕ) (w : ChannelState Letter) (long : length ws ≡ 4808) (ok : wellSized ws ≡ true) (v : Shows ws w) where
+  f : Fit ws
+  f = fit-of ws ok
+
+  z : Sized ws
+  z = sized-of ws long f
+
+  -- the memory left shows what the idealised call leaves, where it does for a number that is the refusal
+  reads : (us : List ℕ) (x : ChannelAction Letter) (r : ℕ) → r ≡ callRefusal ws w x → Shows us (cond (eqb r 0) (channelStep letterMail w x) w)
+      → Shows us (cond (done (letters ws) w x) (channelStep letterMail w x) w)
+  reads us x r e s = rw (refused-is ws w x, ← e) s
+
+  dispatch-refusal : (card : Card) (m : Message) (to : ℕ) → cond (ltb (card .0) (cardsOf ws)) (orElse (channelRefusal letterMail (cardsOf ws) w (dispatch (card .0) (letterOf card m to))) (otherwise 6 (fits ws (letterOf card m to)))) 14
+      ≡ callRefusal ws w (actionOf (dispatchCall card m to))
+  unfolding callRefusal
+  dispatch-refusal card m to = present (ltb (card .0) (cardsOf ws)) _ 14 (omega arith)
+
+  take-refusal : (card : Card) → cond (ltb (card .0) (cardsOf ws)) (channelRefusal letterMail (cardsOf ws) w (takeBroadcast (card .0))) 14 ≡ callRefusal ws w (actionOf (takeBroadcastCall card))
+  unfolding callRefusal
+  take-refusal card = ap (λ r. cond (ltb (card .0) (cardsOf ws)) r 14) (fine _) ∙ present (ltb (card .0) (cardsOf ws)) _ 14 (omega arith)
+
+  single-refusal : (task : Task) → cond (ltb (task .0) (tasksOf ws)) (channelRefusal letterMail (cardsOf ws) w (takeSingle (task .0))) 12 ≡ callRefusal ws w (actionOf (takeSingleCall task))
+  unfolding callRefusal
+  single-refusal task = ap (λ r. cond (ltb (task .0) (tasksOf ws)) r 12) (fine _) ∙ present (ltb (task .0) (tasksOf ws)) _ 12 (omega arith)
+
+  receive-refusal : (card : Card) → cond (ltb (card .0) (cardsOf ws)) (channelRefusal letterMail (cardsOf ws) w (deliver (card .0))) 14 ≡ callRefusal ws w (actionOf (receiveCall card))
+  unfolding callRefusal
+  receive-refusal card = ap (λ r. cond (ltb (card .0) (cardsOf ws)) r 14) (fine _) ∙ present (ltb (card .0) (cardsOf ws)) _ 14 (omega arith)
+
+  dispatch-follows : (card : Card) (m : Message) (to : ℕ) → CallFollows ws w (dispatchCall card m to)
+  unfolding callNumber callMemory channelRefusal dispatchAnswer dispatchMemory answerNumber
+  dispatch-follows card m to =
+      let k = dispatch-keeps ws long f card m to in
+      let n = dispatch-number ws w z v card m to in
+      record {
+        number = n ∙ dispatch-refusal card m to;
+        shows = reads (dispatchMemory ws card m to) (actionOf (dispatchCall card m to)) _ (dispatch-refusal card m to) (dispatch-left ws w z v card m to);
+        sized = of-fit (dispatchMemory ws card m to) (k .fit);
+        long = k .long;
+        sizes = k .sizes;
+        untouched = λ h. alone (ltb (card .0) (cardsOf ws)) (several to) h;
+      }
+    where
+      l : Letter
+      l = letterOf card m to
+
+      alone : (b c : Bool) → answerNumber (cond b (cond c (castAnswer ws l) (flyAnswer ws l)) NoCard) ≢ 0
+          → cond b (cond c (castMemory ws l) (flyMemory ws (card .0) l)) ws ≡ ws
+      alone true true h = cast-alone ws l h
+      alone true false h = fly-alone ws (card .0) l h
+      alone false c h = refl
+
+  take-follows : (card : Card) → CallFollows ws w (takeBroadcastCall card)
+  unfolding callNumber callMemory channelRefusal takeMemory
+  take-follows card =
+      let k = take-keeps ws long f card in
+      record {
+        number = take-number ws w z v card ∙ take-refusal card;
+        shows = reads (takeMemory ws card) (actionOf (takeBroadcastCall card)) _ (take-refusal card) (take-left ws w z v card);
+        sized = of-fit (takeMemory ws card) (k .fit);
+        long = k .long;
+        sizes = k .sizes;
+        untouched = λ h. left-alone ws _ (takeAnswer ws card) h;
+      }
+
+  single-follows : (task : Task) → CallFollows ws w (takeSingleCall task)
+  unfolding callNumber callMemory channelRefusal singleMemory
+  single-follows task =
+      let k = single-keeps ws long f task in
+      record {
+        number = single-number ws w z v task ∙ single-refusal task;
+        shows = reads (singleMemory ws task) (actionOf (takeSingleCall task)) _ (single-refusal task) (single-left ws w z v task);
+        sized = of-fit (singleMemory ws task) (k .fit);
+        long = k .long;
+        sizes = k .sizes;
+        untouched = λ h. left-alone ws _ (singleAnswer ws task) h;
+      }
+
+  receive-follows : (card : Card) → CallFollows ws w (receiveCall card)
+  unfolding callNumber callMemory channelRefusal receiveMemory receiveAnswer receivedNumber gotOf popped
+  receive-follows card =
+      let k = receive-keeps ws long f card in
+      record {
+        number = receive-number ws w z v card ∙ receive-refusal card;
+        shows = reads (receiveMemory ws card) (actionOf (receiveCall card)) _ (receive-refusal card) (receive-left ws w z v card);
+        sized = of-fit (receiveMemory ws card) (k .fit);
+        long = k .long;
+        sizes = k .sizes;
+        untouched = λ h. alone (ltb (card .0) (cardsOf ws)) (eqb (countOf ws (card .0)) 0) _ _ h;
+      }
+    where
+      alone : (b c : Bool) (m : Message) (us : List ℕ) → receivedNumber (cond b (cond c Empty (Got m)) NoSuchCard) ≢ 0 → cond b (cond c ws us) ws ≡ ws
+      alone true true m us h = refl
+      alone true false m us h = absurd (h refl)
+      alone false c m us h = refl
+
+  pub call-follows : (c : Call) → CallFollows ws w c
+  call-follows (dispatchCall card m to) = dispatch-follows card m to
+  call-follows (takeBroadcastCall card) = take-follows card
+  call-follows (takeSingleCall task) = single-follows task
+  call-follows (receiveCall card) = receive-follows card

@@ -1,0 +1,112 @@
+-- `dispatch` answers and does what the idealised step 6 does.
+use Prim.Native.Nat.{ℕ, suc, _+_, _<_}
+use mathlib.Core.Path.{_≡_, refl}
+use mathlib.Core.Bool.{Bool, true, false, cond}
+use mathlib.Core.List.{List}
+use mathlib.Core.Option.{Option, none, some}
+use native.Mathlib.Numerals.{add-one}
+use borrow.Author.Tests.{ltb-true}
+use lib.Dec.{eqb, ltb, leb}
+use lib.ListN.{length}
+use Rattle.lists.specs.Every.{each, each-cong}
+use Rattle.lists.specs.Tests.{and-fst}
+use Rattle.names.specs.declared.Card.{Card}
+use Rattle.names.specs.declared.Message.{Message}
+use Rattle.channel.specs.declared.Letter.{Letter}
+use Rattle.channel.specs.declared.Answer.the-variants.{Done, IllSized, NoCard, FarBehind}
+use Rattle.channel.specs.State.{Tagged, ChannelState, dispatching}
+use Rattle.channel.specs.Refusals.{otherwise, broadcastRefusal, flightRefusal, dispatchRefusal}
+use Rattle.channel.specs.Layout.{cardsOf, tasksOf, madeOf, flightBlock}
+use Rattle.channel.specs.Letters.{several, fits}
+use Rattle.channel.specs.Answers.{answerNumber, isDone}
+use Rattle.channel.specs.TakeSingle.{noFlight}
+use Rattle.channel.specs.Dispatch.{nearAt, near, castAnswer, castMemory, flyAnswer, flyMemory, letterOf, dispatchAnswer, dispatchMemory}
+use Rattle.channel.specs.Shows.{letterMail, taggedAt, flightOf, Shows}
+use Rattle.channel.specs.MemoryCalls.{orElse}
+use Rattle.channel.proofs.Facts.{Sized}
+use Rattle.channel.proofs.Answering.{picked, settle}
+use Rattle.channel.proofs.Sending.{fly-shows, cast-shows}
+
+-- a fitting letter is of a task that is present
+pub fits-task : (ws : List ℕ) (l : Letter) → fits ws l ≡ true → l .message .task .0 < tasksOf ws
+unfolding fits
+fits-task ws l e = ltb-true _ _ (and-fst _ _ (and-fst _ _ (and-fst _ _ (and-fst _ _ e))))
+
+module _ (ws : List ℕ) (w : ChannelState Letter) (z : Sized ws) (v : Shows ws w) where
+  -- 34 looks at each present card
+  near-is : near ws ≡ each (cardsOf ws) (λ i. leb (suc (length (w .sent))) (w .taken i + 64))
+  unfolding near nearAt
+  near-is = each-cong (cardsOf ws) _ _ (λ i c. rw (v .made=, v .taken= i c, add-one (madeOf ws)))
+
+  cast-number : (l : Letter) → answerNumber (castAnswer ws l) ≡ orElse (broadcastRefusal letterMail (cardsOf ws) w) (otherwise 6 (fits ws l))
+  unfolding castAnswer answerNumber
+  cast-number l = rw (near-is, v .made=) (go (each (cardsOf ws) (λ i. leb (suc (madeOf ws)) (w .taken i + 64))) (fits ws l) (ltb (madeOf ws) 65535))
+    where
+      go : (a b c : Bool) → answerNumber (cond a (cond b (cond c Done IllSized) IllSized) FarBehind) ≡ orElse (cond a (otherwise 6 c) 34) (otherwise 6 b)
+      go true true true = refl
+      go true true false = refl
+      go true false true = refl
+      go true false false = refl
+      go false true true = refl
+      go false true false = refl
+      go false false true = refl
+      go false false false = refl
+
+  fly-number : (l : Letter) → answerNumber (flyAnswer ws l) ≡ orElse (flightRefusal letterMail (cardsOf ws) (w .flight (l .message .task .0))) (otherwise 6 (fits ws l))
+  unfolding flyAnswer answerNumber flightOf
+  fly-number l = go (fits ws l) refl
+    where
+      slot : (b : Bool) (x : Tagged Letter) → answerNumber (cond b Done IllSized) ≡ orElse (flightRefusal letterMail (cardsOf ws) (cond b none (some x))) 0
+      slot true x = refl
+      slot false x = refl
+
+      bad : (o : Option (Tagged Letter)) → 6 ≡ orElse (flightRefusal letterMail (cardsOf ws) o) 6
+      bad none = refl
+      bad (some x) = refl
+
+      go : (b : Bool) → fits ws l ≡ b → answerNumber (cond b (cond (noFlight ws (l .message .task .0)) Done IllSized) IllSized)
+          ≡ orElse (flightRefusal letterMail (cardsOf ws) (w .flight (l .message .task .0))) (otherwise 6 b)
+      go true e = rw (v .flight= (l .message .task .0) (fits-task ws l e)) (slot (noFlight ws (l .message .task .0)) (taggedAt ws (flightBlock (l .message .task .0))))
+      go false e = bad (w .flight (l .message .task .0))
+
+  module _ (card : Card) (m : Message) (to : ℕ) where
+    abbrev i : ℕ
+    i = card .0
+
+    abbrev l : Letter
+    l = letterOf card m to
+
+    -- 14, 34, 6 as the idealised step has them; 6 too for a letter that does not fit
+    pub dispatch-number : answerNumber (dispatchAnswer ws card m to) ≡ cond (ltb i (cardsOf ws)) (orElse (dispatchRefusal letterMail (cardsOf ws) w l) (otherwise 6 (fits ws l))) 14
+    unfolding dispatchAnswer answerNumber
+    dispatch-number = go (ltb i (cardsOf ws)) (several to)
+      where
+        go : (b c : Bool) → answerNumber (cond b (cond c (castAnswer ws l) (flyAnswer ws l)) NoCard)
+            ≡ cond b (orElse (cond c (broadcastRefusal letterMail (cardsOf ws) w) (flightRefusal letterMail (cardsOf ws) (w .flight (m .task .0)))) (otherwise 6 (fits ws l))) 14
+        go true true = cast-number l
+        go true false = fly-number l
+        go false c = refl
+
+    cast-left : Shows (castMemory ws l) (cond (eqb (orElse (broadcastRefusal letterMail (cardsOf ws) w) (otherwise 6 (fits ws l))) 0) (dispatching letterMail true w i l) w)
+    unfolding castMemory
+    cast-left = settle ws _ w _ (castAnswer ws l) _ (cast-number l) v (λ e. cast-shows ws w z v i l)
+
+    fly-left : i < cardsOf ws
+        → Shows (flyMemory ws i l) (cond (eqb (orElse (flightRefusal letterMail (cardsOf ws) (w .flight (m .task .0))) (otherwise 6 (fits ws l))) 0) (dispatching letterMail false w i l) w)
+    unfolding flyMemory flyAnswer isDone
+    fly-left c =
+        settle ws _ w _ (flyAnswer ws l) _ (fly-number l) v
+        (λ e. fly-shows ws w z v i l c (fits-task ws l (picked (fits ws l) _ IllSized refl e .0)))
+
+    pub dispatch-left : Shows (dispatchMemory ws card m to)
+        (cond (eqb (cond (ltb i (cardsOf ws)) (orElse (dispatchRefusal letterMail (cardsOf ws) w l) (otherwise 6 (fits ws l))) 14) 0) (dispatching letterMail (several to) w i l) w)
+    unfolding dispatchMemory
+    dispatch-left = go (ltb i (cardsOf ws)) refl (several to)
+      where
+        go : (b : Bool) → ltb i (cardsOf ws) ≡ b → (c : Bool)
+            → Shows (cond b (cond c (castMemory ws l) (flyMemory ws i l)) ws)
+            (cond (eqb (cond b (orElse (cond c (broadcastRefusal letterMail (cardsOf ws) w) (flightRefusal letterMail (cardsOf ws) (w .flight (m .task .0)))) (otherwise 6 (fits ws l))) 14) 0)
+            (dispatching letterMail c w i l) w)
+        go true e true = cast-left
+        go true e false = fly-left (ltb-true i (cardsOf ws) e)
+        go false e c = v

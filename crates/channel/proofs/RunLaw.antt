@@ -1,0 +1,97 @@
+-- The memory of a channel after any list of calls from its beginning shows the idealised channel after the same calls.
+use Prim.Native.Nat.{ℕ}
+use mathlib.Core.Path.{_≡_, refl, sym, ap, ap₂, _∙_}
+use mathlib.Core.Bool.{true, cond}
+use mathlib.Core.List.{List, [], _∷_, map}
+use lib.Dec.{eqb, ltb}
+use lib.ListN.{length}
+use Rattle.channel.specs.declared.Letter.{Letter}
+use Rattle.channel.specs.declared.Received.the-variants.{NoSuchCard}
+use Rattle.channel.specs.State.{ChannelState, ChannelAction, dispatch, takeBroadcast, takeSingle, deliver, channelStep}
+use Rattle.channel.specs.Begin.{sizesFit, begun}
+use Rattle.channel.specs.Sized.{wellSized}
+use Rattle.channel.specs.Shows.{letterMail, Shows}
+use Rattle.channel.specs.Calls.{done, calls}
+use Rattle.channel.specs.MemoryCalls.{Call, callNumber, callMemory, memoryAfter, answersAfter, actionOf, handedUp, callRefusal, letters, refusalsAfter, SameSizes, RunFollows}
+use Rattle.channel.proofs.Receiving.{receive-answer}
+use Rattle.channel.proofs.Fitting.{fit-of, of-fit, same-cards, same-tasks, fits-same}
+use Rattle.channel.proofs.FitRelease.{sizes-trans}
+use Rattle.channel.proofs.FitSized.{sized-of}
+use Rattle.channel.proofs.BeginLaw.{begun-long, begun-shows, begun-fit}
+use Rattle.channel.proofs.CallLaws.{refused-is, call-follows}
+use Rattle.channel.proofs.CallsKeepPromise.{calls-promise}
+
+-- refusals look at nothing of a memory but its sizes
+refusal-sizes : (us ms : List ℕ) → SameSizes us ms → (w : ChannelState Letter) (x : ChannelAction Letter) → callRefusal us w x ≡ callRefusal ms w x
+unfolding callRefusal
+refusal-sizes us ms s w (dispatch i l) = rw (same-cards us ms s, fits-same us ms s l)
+refusal-sizes us ms s w (takeBroadcast i) = rw (same-cards us ms s)
+refusal-sizes us ms s w (takeSingle t) = rw (same-cards us ms s, same-tasks us ms s)
+refusal-sizes us ms s w (deliver i) = rw (same-cards us ms s)
+
+done-sizes : (us ms : List ℕ) → SameSizes us ms → (w : ChannelState Letter) (x : ChannelAction Letter) → done (letters us) w x ≡ done (letters ms) w x
+done-sizes us ms s w x = refused-is us w x ∙ ap (λ r. eqb r 0) (refusal-sizes us ms s w x) ∙ sym (refused-is ms w x)
+
+-- where the run stands
+record Upto (ms us : List ℕ) (w : ChannelState Letter) : Type 0 where
+  pub sized : wellSized us ≡ true
+  pub long : length us ≡ 4808
+  pub sizes : SameSizes us ms
+  pub shows : Shows us w
+
+module _ (ms : List ℕ) (long : length ms ≡ 4808) (ok : wellSized ms ≡ true) (v : Shows ms (calls (letters ms) [])) where
+  upto : (cs : List Call) → Upto ms (memoryAfter ms cs) (calls (letters ms) (map actionOf cs))
+  unfolding memoryAfter
+  upto [] = record { sized = ok; long = long; sizes = record { cards = refl; tasks = refl; registers = refl }; shows = v }
+  upto (c ∷ cs) = onward (upto cs)
+    where
+      us : List ℕ
+      us = memoryAfter ms cs
+
+      w : ChannelState Letter
+      w = calls (letters ms) (map actionOf cs)
+
+      onward : Upto ms us w → Upto ms (callMemory us c) (cond (done (letters ms) w (actionOf c)) (channelStep letterMail w (actionOf c)) w)
+      onward u =
+          let k = call-follows us w (u .long) (u .sized) (u .shows) c in
+          record {
+            sized = k .sized;
+            long = k .long;
+            sizes = sizes-trans (callMemory us c) us ms (k .sizes) (u .sizes);
+            shows = rw (← done-sizes us ms (u .sizes) w (actionOf c)) (k .shows);
+          }
+
+  numbers : (cs : List Call) → answersAfter ms cs ≡ refusalsAfter ms (map actionOf cs)
+  unfolding answersAfter refusalsAfter
+  numbers [] = refl
+  numbers (c ∷ cs) = ap₂ (λ (a : ℕ) (b : List ℕ). a ∷ b) (one (upto cs)) (numbers cs)
+    where
+      us : List ℕ
+      us = memoryAfter ms cs
+
+      w : ChannelState Letter
+      w = calls (letters ms) (map actionOf cs)
+
+      one : Upto ms us w → callNumber us c ≡ callRefusal ms w (actionOf c)
+      one u = call-follows us w (u .long) (u .sized) (u .shows) c .number ∙ refusal-sizes us ms (u .sizes) w (actionOf c)
+
+  pub run-follows : (cs : List Call) → RunFollows ms cs
+  run-follows cs =
+      let u = upto cs in
+      record {
+        sized = u .sized;
+        long = u .long;
+        sizes = u .sizes;
+        shows = u .shows;
+        answers = numbers cs;
+        hands = λ card.
+            receive-answer (memoryAfter ms cs) (calls (letters ms) (map actionOf cs)) (sized-of (memoryAfter ms cs) (u .long) (fit-of (memoryAfter ms cs) (u .sized))) (u .shows) card
+            ∙ ap (λ n. cond (ltb (card .0) n) (handedUp ((calls (letters ms) (map actionOf cs)) .inbox (card .0))) NoSuchCard) (same-cards (memoryAfter ms cs) ms (u .sizes));
+        promise = calls-promise (letters ms) (map actionOf cs);
+      }
+
+-- from `begin` of accepted sizes
+pub begun-follows : (cards tasks registers : ℕ) → sizesFit cards tasks registers ≡ true → (cs : List Call) → RunFollows (begun cards tasks registers) cs
+begun-follows cards tasks registers ok =
+    run-follows (begun cards tasks registers) (begun-long cards tasks registers ok)
+    (of-fit (begun cards tasks registers) (begun-fit cards tasks registers ok)) (begun-shows cards tasks registers ok)

@@ -1,0 +1,208 @@
+-- `dispatch` keeps the memory well sized.
+use Prim.Native.Nat.{ℕ, zero, suc, _+_, _-_, _*_, _<_, _≤_, _^_}
+use mathlib.Core.Path.{_≡_, refl, _∙_}
+use mathlib.Core.Bool.{Bool, true, false, cond, _||_}
+use mathlib.Core.Logic.{_≢_}
+use mathlib.Core.List.{List}
+use native.Mathlib.Decide.{ℕ-discrete}
+use native.Mathlib.Omega.{arith}
+use borrow.Author.Tests.{ltb-true, leb-true, le-leb}
+use lib.Dec.{ltb, leb}
+use lib.ListN.{length, getD, set, length-set}
+use lib.Seq.{getD-set-same, getD-set-other}
+use Rattle.lists.specs.Tests.{eqb-refl, and-fst, and-intro}
+use Rattle.lists.specs.Conjunctions.{and-five}
+use Rattle.lists.specs.Every.{each-at}
+use Rattle.names.specs.declared.Card.{Card}
+use Rattle.names.specs.declared.Message.{Message}
+use Rattle.channel.specs.declared.Letter.{Letter}
+use Rattle.channel.specs.declared.Answer.the-variants.{Done, IllSized, FarBehind}
+use Rattle.channel.specs.Layout.{cardsWord, tasksWord, registersWord, madeWord, takenWord, flightBlock, broadcastBlock, cardsOf, tasksOf, registersOf, madeOf, takenOf}
+use Rattle.channel.specs.Letters.{stored, several, known, addressed, fits}
+use Rattle.channel.specs.Answers.{isDone}
+use Rattle.channel.specs.Begin.{sizesFit}
+use Rattle.channel.specs.TakeSingle.{noFlight}
+use Rattle.channel.specs.Dispatch.{nearAt, near, castAnswer, castMemory, flyAnswer, flyMemory, letterOf, dispatchMemory}
+use Rattle.channel.specs.Sized.{flightFits, broadcastFits, headFits}
+use Rattle.channel.proofs.Blocks.{word-other, length-stored}
+use Rattle.channel.proofs.Facts.{cards-most, tasks-most}
+use Rattle.channel.proofs.Answering.{picked}
+use Rattle.channel.proofs.Destinations.{single-of}
+use Rattle.channel.proofs.DispatchLaw.{fits-task}
+use Rattle.channel.specs.MemoryCalls.{SameSizes}
+use Rattle.channel.proofs.Fitting.{CardFit, Fit, same-cards, same-tasks, fits-same, flight-same, broadcast-same, card-same}
+use Rattle.channel.proofs.FitMoves.{fits-small, put-letter, put-fits}
+use Rattle.channel.proofs.FitSized.{Kept, unchanged, head-same}
+
+or-intro : (a : Bool) {b : Bool} → b ≡ true → (a || b) ≡ true
+or-intro true e = refl
+or-intro false e = e
+
+-- a letter that fits goes to somebody
+fits-some : (ws : List ℕ) (l : Letter) → fits ws l ≡ true → 1 ≤ l .to
+unfolding fits addressed
+fits-some ws l f =
+    let u = and-five (ltb (l .message .task .0) (tasksOf ws)) (ltb (l .message .register .0) (registersOf ws)) (known (l .message .body)) (ltb (l .from .0) (cardsOf ws))
+    (addressed ws (l .to)) f in
+    leb-true 1 (l .to) (and-fst (leb 1 (l .to)) (ltb (l .to) (2 ^ cardsOf ws)) (u .4))
+
+-- ---- in flight
+
+module _ (ws : List ℕ) (long : length ws ≡ 4808) (f : Fit ws) (l : Letter) (tag : ℕ) (g : fits ws l ≡ true) (alone : several (l .to) ≡ false) where
+  abbrev t : ℕ
+  t = l .message .task .0
+
+  abbrev us : List ℕ
+  us = stored ws (flightBlock t) l tag
+
+  t16 : t < 16
+  t16 = omega (arith, fits-task ws l g, tasks-most ws)
+
+  word : (a : ℕ) → ((k : ℕ) → k < 8 → a ≢ flightBlock t * 8 + k) → getD us a 0 ≡ getD ws a 0
+  word = word-other ws (flightBlock t) l tag
+
+  sizes : SameSizes us ws
+  sizes = record { cards = word 0 (λ k h. omega arith); tasks = word 1 (λ k h. omega arith); registers = word 2 (λ k h. omega arith) }
+
+  slot-fit : (d : ℕ) → d < tasksOf ws → flightFits us d ≡ true
+  unfolding flightFits
+  slot-fit d h = go (ℕ-discrete d t)
+    where
+      go : Dec (d ≡ t) → flightFits us d ≡ true
+      go (yes e) =
+          let w : flightBlock t * 8 + 8 ≤ length ws = omega (arith, t16) in
+          let fu : fits us l ≡ true = fits-same us ws sizes l ∙ g in
+          let y = put-letter us ws (flightBlock t) l tag fu w (λ k r. refl) in
+          let b = put-fits us ws (flightBlock t) l tag fu w (λ k r. refl) in
+          let o = single-of (l .to) (fits-small ws l g) (fits-some ws l g) alone in
+          rw e (or-intro (noFlight us t) (and-intro (and-intro b (rw y (eqb-refl t))) (rw y o)))
+      go (no n) = flight-same us ws sizes d (λ a p q. word a (λ k r. omega arith)) ∙ f .flight d h
+
+  pub flown-fit : Kept us ws
+  flown-fit =
+      let m : madeOf us ≡ madeOf ws = word 3 (λ k h. omega arith) in
+      record {
+        fit = record {
+          sizes = head-same us ws sizes m ∙ f .sizes;
+          card = λ j c. let q = cards-most us in rw m (card-same us ws sizes (madeOf ws) j (λ a p r. word a (λ k h. omega arith)) (f .card j (rw (← same-cards us ws sizes) c)));
+          flight = λ d h. slot-fit d (rw (← same-tasks us ws sizes) h);
+          recent = λ k p h. rw m (broadcast-same us ws sizes (madeOf ws - k) (λ a u v. word a (λ b r. omega (arith, t16))) ∙ f .recent k (rw (← m) p) h);
+        };
+        long = length-stored ws (flightBlock t) l tag ∙ long;
+        sizes = sizes;
+      }
+
+-- ---- a broadcast more
+
+module _ (ws : List ℕ) (long : length ws ≡ 4808) (f : Fit ws) (l : Letter) (g : fits ws l ≡ true) (many : several (l .to) ≡ true)
+    (close : near ws ≡ true) (few : madeOf ws < 65535) where
+  abbrev n : ℕ
+  n = madeOf ws + 1
+
+  abbrev slot : ℕ
+  slot = broadcastBlock n
+
+  abbrev vs : List ℕ
+  vs = stored ws slot l n
+
+  abbrev cs : List ℕ
+  cs = set vs madeWord n
+
+  cword : (a : ℕ) → a ≢ 3 → ((k : ℕ) → k < 8 → a ≢ slot * 8 + k) → getD cs a 0 ≡ getD ws a 0
+  cword a h e = getD-set-other vs 3 a n 0 h ∙ word-other ws slot l n a e
+
+  csizes : SameSizes cs ws
+  csizes = record { cards = cword 0 (omega arith) (λ k h. omega arith); tasks = cword 1 (omega arith) (λ k h. omega arith); registers = cword 2 (omega arith) (λ k h. omega arith) }
+
+  made : madeOf cs ≡ n
+  made = getD-set-same vs 3 n 0 (omega (arith, length-stored ws slot l n))
+
+  head-fit : headFits cs ≡ true
+  unfolding headFits
+  head-fit =
+      let a = and-fst (sizesFit (getD ws cardsWord 0) (getD ws tasksWord 0) (getD ws registersWord 0)) (leb (madeOf ws) 65535) (f .sizes) in
+      rw (csizes .cards, csizes .tasks, csizes .registers, made) (and-intro a (le-leb n 65535 (omega arith)))
+
+  card-fit : (j : ℕ) → j < cardsOf ws → CardFit cs n j
+  unfolding near nearAt
+  card-fit j c =
+      let e : (a : ℕ) → takenWord j ≤ a → a < takenWord (j + 1) → getD cs a 0 ≡ getD ws a 0 =
+      λ a p q. let b = cards-most ws in cword a (omega arith) (λ k h. omega arith) in
+      let x = card-same cs ws csizes (madeOf ws) j e (f .card j c) in
+      let t : takenOf cs j ≡ takenOf ws j = e (takenWord j) (omega arith) (omega arith) in
+      let o = leb-true (madeOf ws + 1) (takenOf ws j + 64) (each-at (cardsOf ws) (nearAt ws) close j c) in
+      record {
+        behind = omega (arith, x .behind);
+        near = omega arith;
+        head = x .head;
+        count = x .count;
+        held = x .held;
+        inbox = x .inbox;
+        helds = x .helds;
+      }
+
+  recent-fit : (k : ℕ) → k < n → k < 64 → broadcastFits cs (n - k) ≡ true
+  unfolding broadcastFits
+  recent-fit zero p h =
+      let w : slot * 8 + 8 ≤ length ws = omega arith in
+      let fu : fits cs l ≡ true = fits-same cs ws csizes l ∙ g in
+      let v : (k : ℕ) → k < 8 → getD cs (slot * 8 + k) 0 ≡ getD vs (slot * 8 + k) 0 = λ k r. getD-set-other vs 3 (slot * 8 + k) n 0 (omega arith) in
+      let e : n - 0 ≡ n = omega arith in
+      rw e (and-intro (put-fits cs ws slot l n fu w v) (rw (put-letter cs ws slot l n fu w v) many))
+  recent-fit (suc k) p h =
+      let e : n - suc k ≡ madeOf ws - k = omega arith in
+      rw e (broadcast-same cs ws csizes (madeOf ws - k) (λ a u v. cword a (omega arith) (λ b r. omega arith)) ∙ f .recent k (omega arith) (omega arith))
+
+  pub cast-fit : Kept cs ws
+  cast-fit = record {
+    fit = record {
+      sizes = head-fit;
+      card = λ j c. rw made (card-fit j (rw (← same-cards cs ws csizes) c));
+      flight = λ t h. let b = tasks-most cs in
+          flight-same cs ws csizes t (λ a p q. cword a (omega arith) (λ k r. omega arith)) ∙ f .flight t (rw (← same-tasks cs ws csizes) h);
+      recent = λ k p h. rw made (recent-fit k (rw (← made) p) h);
+    };
+    long = length-set vs madeWord n ∙ length-stored ws slot l n ∙ long;
+    sizes = csizes;
+  }
+
+-- ---- step 6
+
+module _ (ws : List ℕ) (long : length ws ≡ 4808) (f : Fit ws) where
+  fly-keeps : (i : ℕ) (l : Letter) → several (l .to) ≡ false → Kept (flyMemory ws i l) ws
+  unfolding flyMemory flyAnswer isDone
+  fly-keeps i l alone = go (isDone (flyAnswer ws l)) refl
+    where
+      us : List ℕ
+      us = stored ws (flightBlock (l .message .task .0)) l (takenOf ws i)
+
+      go : (b : Bool) → isDone (flyAnswer ws l) ≡ b → Kept (cond b us ws) ws
+      go true e = flown-fit ws long f l (takenOf ws i) (picked (fits ws l) _ IllSized refl e .0) alone
+      go false e = unchanged ws long f
+
+  cast-keeps : (l : Letter) → several (l .to) ≡ true → Kept (castMemory ws l) ws
+  unfolding castMemory castAnswer isDone
+  cast-keeps l many = go (isDone (castAnswer ws l)) refl
+    where
+      us : List ℕ
+      us = set (stored ws (broadcastBlock (madeOf ws + 1)) l (madeOf ws + 1)) madeWord (madeOf ws + 1)
+
+      go : (b : Bool) → isDone (castAnswer ws l) ≡ b → Kept (cond b us ws) ws
+      go true e =
+          let a = picked (near ws) _ FarBehind refl e in
+          let b = picked (fits ws l) _ IllSized refl (a .1) in
+          let c = picked (ltb (madeOf ws) 65535) Done IllSized refl (b .1) in
+          cast-fit ws long f l (b .0) many (a .0) (ltb-true (madeOf ws) 65535 (c .0))
+      go false e = unchanged ws long f
+
+  pub dispatch-keeps : (card : Card) (m : Message) (to : ℕ) → Kept (dispatchMemory ws card m to) ws
+  unfolding dispatchMemory
+  dispatch-keeps card m to = go (ltb (card .0) (cardsOf ws)) (several to) refl
+    where
+      l : Letter
+      l = letterOf card m to
+
+      go : (b c : Bool) → several to ≡ c → Kept (cond b (cond c (castMemory ws l) (flyMemory ws (card .0) l)) ws) ws
+      go true true e = cast-keeps l e
+      go true false e = fly-keeps (card .0) l e
+      go false c e = unchanged ws long f

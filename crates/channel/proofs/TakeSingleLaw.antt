@@ -1,0 +1,103 @@
+-- `take_single` answers and does what the idealised step 8 does.
+use Prim.Native.Nat.{ℕ, _<_}
+use mathlib.Core.Path.{_≡_, refl, _∙_}
+use mathlib.Core.Bool.{Bool, true, false, cond}
+use mathlib.Core.List.{List}
+use mathlib.Core.Option.{none, some}
+use native.Mathlib.Omega.{arith}
+use borrow.Author.Tests.{ltb-true, leb-false}
+use lib.Dec.{eqb, ltb, leb}
+use Rattle.names.specs.declared.Task.{Task}
+use Rattle.channel.specs.declared.Letter.{Letter}
+use Rattle.channel.specs.declared.Answer.the-variants.{Done, IllSized, NoTask, NoneInFlight}
+use Rattle.channel.specs.State.{Tagged, ChannelState, arriving}
+use Rattle.channel.specs.Refusals.{otherwise, singleRefusal}
+use Rattle.channel.specs.Layout.{flightBlock, cardsOf, tasksOf, countOf, heldCountOf}
+use Rattle.channel.specs.Letters.{single}
+use Rattle.channel.specs.Answers.{answerNumber, isDone}
+use Rattle.channel.specs.TakeSingle.{noFlight, flightLetter, flightTag, flightTo, joinsAt, landAnswer, singleAnswer, singleMemory}
+use Rattle.channel.specs.Shows.{letterMail, taggedAt, flightOf, Shows}
+use Rattle.channel.proofs.Facts.{Sized}
+use Rattle.channel.proofs.Answering.{full, picked, passed, settle}
+use Rattle.channel.proofs.Landing.{land-shows}
+use Rattle.channel.proofs.TakeBroadcastLaw.{inbox-length, held-length}
+
+-- what a done call knew
+pub record Landed (ws : List ℕ) (t : ℕ) : Type 0 where
+  pub present : t < tasksOf ws
+  pub flying : noFlight ws t ≡ false
+  pub room-in : cond (joinsAt ws (flightTo ws t) (flightTag ws t)) (countOf ws (flightTo ws t)) 0 < 48
+  pub room-held : cond (joinsAt ws (flightTo ws t) (flightTag ws t)) 0 (heldCountOf ws (flightTo ws t)) < 16
+
+pub landed-knew : (ws : List ℕ) (task : Task) → isDone (singleAnswer ws task) ≡ true → Landed ws (task .0)
+unfolding singleAnswer landAnswer isDone
+landed-knew ws task e =
+    let t : ℕ = task .0 in
+    let a = picked (ltb t (tasksOf ws)) _ NoTask refl e in
+    let b = passed (noFlight ws t) NoneInFlight _ refl (a .1) in
+    let c = picked (single (flightLetter ws t .to)) _ IllSized refl (b .1) in
+    let r = room (flightTo ws t) (joinsAt ws (flightTo ws t) (flightTag ws t)) (c .1) in
+    record { present = ltb-true t (tasksOf ws) (a .0); flying = b .0; room-in = r .0; room-held = r .1 }
+  where
+    room : (i : ℕ) (b : Bool) → isDone (cond b (cond (leb 48 (countOf ws i)) IllSized Done) (cond (leb 16 (heldCountOf ws i)) IllSized Done)) ≡ true
+        → (cond b (countOf ws i) 0 < 48) × (cond b 0 (heldCountOf ws i) < 16)
+    room i true q = (leb-false 48 (countOf ws i) (passed (leb 48 (countOf ws i)) IllSized Done refl q .0), omega arith)
+    room i false q = (omega arith, leb-false 16 (heldCountOf ws i) (passed (leb 16 (heldCountOf ws i)) IllSized Done refl q .0))
+
+module _ (ws : List ℕ) (w : ChannelState Letter) (z : Sized ws) (v : Shows ws w) (task : Task) where
+  abbrev t : ℕ
+  t = task .0
+
+  abbrev x : Tagged Letter
+  x = taggedAt ws (flightBlock t)
+
+  abbrev i : ℕ
+  i = flightTo ws t
+
+  flies : t < tasksOf ws → noFlight ws t ≡ false → w .flight t ≡ some x
+  unfolding flightOf
+  flies h e = v .flight= t h ∙ rw e
+
+  none-flies : t < tasksOf ws → noFlight ws t ≡ true → w .flight t ≡ none
+  unfolding flightOf
+  none-flies h e = v .flight= t h ∙ rw e
+
+  joins-is : i < cardsOf ws → joinsAt ws i (flightTag ws t) ≡ leb (x .mark) (w .taken i)
+  unfolding joinsAt
+  joins-is c = rw (v .taken= i c)
+
+  land-number : i < cardsOf ws → answerNumber (landAnswer ws i (joinsAt ws i (flightTag ws t))) ≡ singleRefusal letterMail (cardsOf ws) w (some x)
+  unfolding landAnswer
+  land-number c = rw (joins-is c, v .inbox= i c, v .held= i c, inbox-length ws i, held-length ws i) (go (leb (x .mark) (w .taken i)))
+    where
+      go : (b : Bool)
+          → answerNumber (cond b (cond (leb 48 (countOf ws i)) IllSized Done) (cond (leb 16 (heldCountOf ws i)) IllSized Done))
+          ≡ cond b (otherwise 6 (ltb (countOf ws i) 48)) (otherwise 6 (ltb (heldCountOf ws i) 16))
+      go true = full (countOf ws i) 48
+      go false = full (heldCountOf ws i) 16
+
+  -- 12, 32, 6 as the idealised step has them
+  pub single-number : answerNumber (singleAnswer ws task) ≡ cond (ltb t (tasksOf ws)) (singleRefusal letterMail (cardsOf ws) w (w .flight t)) 12
+  unfolding singleAnswer answerNumber
+  single-number = go (ltb t (tasksOf ws)) refl
+    where
+      here : t < tasksOf ws → (b : Bool) → noFlight ws t ≡ b
+          → answerNumber (cond b NoneInFlight (cond (single (flightLetter ws t .to)) (landAnswer ws i (joinsAt ws i (flightTag ws t))) IllSized))
+          ≡ singleRefusal letterMail (cardsOf ws) w (w .flight t)
+      here h true e = rw (none-flies h e)
+      here h false e = let f = z .flights t h e in rw (f .0, flies h e) (land-number (f .1))
+
+      go : (b : Bool) → ltb t (tasksOf ws) ≡ b
+          → answerNumber (cond b (cond (noFlight ws t) NoneInFlight
+          (cond (single (flightLetter ws t .to)) (landAnswer ws i (joinsAt ws i (flightTag ws t))) IllSized)) NoTask)
+          ≡ cond b (singleRefusal letterMail (cardsOf ws) w (w .flight t)) 12
+      go true e = here (ltb-true t (tasksOf ws) e) (noFlight ws t) refl
+      go false e = refl
+
+  pub single-left : Shows (singleMemory ws task)
+      (cond (eqb (cond (ltb t (tasksOf ws)) (singleRefusal letterMail (cardsOf ws) w (w .flight t)) 12) 0) (arriving letterMail w t (w .flight t)) w)
+  unfolding singleMemory
+  single-left =
+      settle ws _ w _ (singleAnswer ws task) _ single-number v
+      (λ e. let k = landed-knew ws task e in let c = z .flights t (k .present) (k .flying) .1 in
+      rw (flies (k .present) (k .flying), ← joins-is c) (land-shows ws w z v t (k .present) c (joinsAt ws i (flightTag ws t)) (k .room-in) (k .room-held)))

@@ -1,0 +1,105 @@
+-- Any list of calls of the channel, refused ones included, and what is promised of it. The calls' messages may repeat; a message's identity
+-- is the number of the dispatch that was done with it.
+use mathlib.Core.Path.{_≡_}
+use mathlib.Core.Bool.{Bool, cond, _&&_}
+use mathlib.Core.List.{List, [], _∷_, _++_}
+use Prim.Native.Nat.{ℕ, _<_}
+use lib.Dec.{eqb}
+use lib.ListN.{length, getD}
+use borrow.Author.Tests.{eqb-true}
+use Rattle.lists.specs.Tests.{eqb-refl}
+use Rattle.lists.specs.Histories.{Any, At, Suf, In}
+use Rattle.channel.specs.Promise.{IsMcast, Promise}
+use Rattle.channel.specs.Mail.{Mail}
+use Rattle.channel.specs.State.{Tagged, ChannelState, initialChannel, ChannelAction, dispatch, takeBroadcast, takeSingle, deliver, channelStep}
+use Rattle.channel.specs.Refusals.{channelRefusal}
+use Rattle.channel.specs.Network.{Network}
+use Rattle.channel.specs.Automaton.{Step, external}
+use Rattle.channel.specs.TotalOrder.{rank}
+use Rattle.channel.specs.Trace.{steps}
+use Rattle.channel.specs.Renaming.{channel-map}
+
+-- a message that was dispatched, and by which card
+pub record Posted (M : Type 0) : Type 0 where
+  pub from : ℕ
+  pub body : M
+
+-- one more at the end, if the call is a dispatch
+abbrev pub posting : {M : Type 0} → ChannelAction M → List (Posted M) → List (Posted M)
+posting (dispatch i m) l = l ++ (record { from = i; body = m } ∷ [])
+posting (takeBroadcast i) l = l
+posting (takeSingle c) l = l
+posting (deliver i) l = l
+
+-- a dispatch of message number n, if the call is one
+abbrev pub numbering : {M : Type 0} → ℕ → ChannelAction M → ChannelAction ℕ
+numbering n (dispatch i m) = dispatch i n
+numbering n (takeBroadcast i) = takeBroadcast i
+numbering n (takeSingle c) = takeSingle c
+numbering n (deliver i) = deliver i
+
+-- what the calls are made over
+pub record Setup (M : Type 0) : Type 0 where
+  pub mail : Mail M
+  pub cards : ℕ
+  pub inRange : ChannelAction M → Bool  -- what a call names (card, task, message) is in range
+  pub blank : Posted M  -- what a number names that was never given
+
+module _ {M : Type 0} (C : Setup M) where
+  -- a call is done if what it names is in range and nothing refuses it
+  abbrev pub done : ChannelState M → ChannelAction M → Bool
+  done w x = C .inRange x && eqb (channelRefusal (C .mail) (C .cards) w x) 0
+
+  -- the state after a list of calls, newest first; "a refused one changes nothing"
+  abbrev pub calls : List (ChannelAction M) → ChannelState M
+  calls [] = initialChannel
+  calls (x ∷ xs) = cond (done (calls xs) x) (channelStep (C .mail) (calls xs) x) (calls xs)
+
+  -- the messages dispatched; number k stands at place k
+  abbrev pub posted : List (ChannelAction M) → List (Posted M)
+  posted [] = []
+  posted (x ∷ xs) = cond (done (calls xs) x) (posting x (posted xs)) (posted xs)
+
+  module _ (P : List (Posted M)) where
+    -- what number k is
+    abbrev pub letter : ℕ → M
+    letter k = (getD P k (C .blank)) .body
+
+    -- where a message goes: a broadcast to its destinations, another message to its one destination
+    abbrev pub numberedMail : Mail ℕ
+    numberedMail = record {
+      task = λ k. C .mail .task (letter k);
+      to = λ k i. cond (C .mail .multi (letter k)) (C .mail .to (letter k) i) (eqb i (C .mail .dest (letter k)));
+      multi = λ k. C .mail .multi (letter k);
+      dest = λ k. C .mail .dest (letter k);
+    }
+
+    abbrev pub numbers : Network ℕ
+    numbers = record {
+      mail = numberedMail;
+      from = λ k. (getD P k (C .blank)) .from;
+      single = λ k u i. rw u;
+      eqm = eqb;
+      eqm-eq = eqb-true;
+      eqm-refl = eqb-refl;
+    }
+
+    -- the same calls with numbers for messages
+    abbrev pub numbered : List (ChannelAction M) → ChannelState ℕ
+    numbered [] = initialChannel
+    numbered (x ∷ xs) = cond (done (calls xs) x) (channelStep numberedMail (numbered xs) (numbering (length (posted xs)) x)) (numbered xs)
+
+    -- and the steps that they are, newest first: its multicasts and receives are what the promise speaks of
+    abbrev pub trace : List (ChannelAction M) → List (Step ℕ)
+    trace [] = []
+    trace (x ∷ xs) = cond (done (calls xs) x) (steps numberedMail (numbered xs) (numbering (length (posted xs)) x) (trace xs)) (trace xs)
+
+  -- What is promised of a list of calls. `promise`: with 000 §6.2's order T as rank, the multicasts and receives keep the promise.
+  -- `number-once`: a number is multicast once. `shows`: at every moment the state is that of the numbers, with messages for numbers.
+  -- `prompt`: what is held has a tag above the number of broadcasts taken there, so nothing is held longer than its tag asks.
+  pub record CallsPromise (xs : List (ChannelAction M)) : Type 0 where
+    pub promise : Promise (external (numbers (posted xs))) (rank (numbers (posted xs)) (trace (posted xs) xs)) (trace (posted xs) xs)
+    pub number-once : (k : ℕ) (B : List (Step ℕ)) → At (λ e. IsMcast k (external (numbers (posted xs)) e)) B (trace (posted xs) xs)
+        → ¬ Any (λ e. IsMcast k (external (numbers (posted xs)) e)) B
+    pub shows : (ys : List (ChannelAction M)) → Suf ys xs → calls ys ≡ channel-map (letter (posted xs)) (numbered (posted xs) ys)
+    pub prompt : (i : ℕ) (x : Tagged M) → In x ((calls xs) .held i) → (calls xs) .taken i < x .mark

@@ -1,0 +1,135 @@
+-- The calls that the channel offers, with any argument: what each does to a memory, by the definitions that the functions' contracts cite,
+-- and which operation of the idealised channel over letters it is. `CallFollows` and `RunFollows` say that the two keep step.
+use Prim.Native.Nat.{ℕ}
+use mathlib.Core.Path.{_≡_}
+use mathlib.Core.Logic.{_≢_}
+use mathlib.Core.Bool.{true, cond, _&&_}
+use mathlib.Core.List.{List, [], _∷_, map}
+use lib.Dec.{eqb, ltb}
+use lib.ListN.{length, getD}
+use Rattle.names.specs.declared.Card.{Card}
+use Rattle.names.specs.declared.Task.{Task}
+use Rattle.names.specs.declared.Message.{Message}
+use Rattle.channel.specs.declared.Letter.{Letter}
+use Rattle.channel.specs.declared.Received.{Received}
+use Rattle.channel.specs.declared.Received.the-variants.{Got, NoSuchCard, Empty}
+use Rattle.channel.specs.State.{ChannelState, ChannelAction, dispatch, takeBroadcast, takeSingle, deliver, channelStep}
+use Rattle.channel.specs.Refusals.{otherwise, channelRefusal}
+use Rattle.channel.specs.Layout.{cardsWord, tasksWord, registersWord, cardsOf, tasksOf}
+use Rattle.channel.specs.Letters.{letterAt, fits}
+use Rattle.channel.specs.Answers.{answerNumber, receivedNumber}
+use Rattle.channel.specs.Inbox.{receiveAnswer, receiveMemory}
+use Rattle.channel.specs.TakeBroadcast.{takeAnswer, takeMemory}
+use Rattle.channel.specs.TakeSingle.{singleAnswer, singleMemory}
+use Rattle.channel.specs.Dispatch.{letterOf, dispatchAnswer, dispatchMemory}
+use Rattle.channel.specs.Sized.{wellSized}
+use Rattle.channel.specs.Shows.{letterMail, Shows}
+use Rattle.channel.specs.Calls.{Setup, done, calls, CallsPromise}
+
+pub data Call : Type 0 where
+  dispatchCall : Card → Message → ℕ → Call  -- sending card, message, destinations
+  takeBroadcastCall : Card → Call
+  takeSingleCall : Task → Call
+  receiveCall : Card → Call
+
+-- ---- on a memory
+
+-- the number of the answer; 0: it is done
+unfoldable pub callNumber : List ℕ → Call → ℕ
+callNumber ws (dispatchCall card m to) = answerNumber (dispatchAnswer ws card m to)
+callNumber ws (takeBroadcastCall card) = answerNumber (takeAnswer ws card)
+callNumber ws (takeSingleCall task) = answerNumber (singleAnswer ws task)
+callNumber ws (receiveCall card) = receivedNumber (receiveAnswer ws card)
+
+-- the memory left
+unfoldable pub callMemory : List ℕ → Call → List ℕ
+callMemory ws (dispatchCall card m to) = dispatchMemory ws card m to
+callMemory ws (takeBroadcastCall card) = takeMemory ws card
+callMemory ws (takeSingleCall task) = singleMemory ws task
+callMemory ws (receiveCall card) = receiveMemory ws card
+
+-- the memory after a list of calls, newest first, and the numbers of their answers
+unfoldable pub memoryAfter : List ℕ → List Call → List ℕ
+memoryAfter ws [] = ws
+memoryAfter ws (c ∷ cs) = callMemory (memoryAfter ws cs) c
+
+unfoldable pub answersAfter : List ℕ → List Call → List ℕ
+answersAfter ws [] = []
+answersAfter ws (c ∷ cs) = callNumber (memoryAfter ws cs) c ∷ answersAfter ws cs
+
+-- ---- on the idealised channel, over letters
+
+abbrev pub actionOf : Call → ChannelAction Letter
+actionOf (dispatchCall card m to) = dispatch (card .0) (letterOf card m to)
+actionOf (takeBroadcastCall card) = takeBroadcast (card .0)
+actionOf (takeSingleCall task) = takeSingle (task .0)
+actionOf (receiveCall card) = deliver (card .0)
+
+-- the first of two refusals; 0 is none
+abbrev pub orElse : ℕ → ℕ → ℕ
+orElse r s = cond (eqb r 0) s r
+
+-- what `receive` hands up of an inbox: its head's message
+abbrev pub handedUp : List Letter → Received
+handedUp [] = Empty
+handedUp (l ∷ r) = Got (l .message)
+
+-- The sizes are those of a memory ms; no call changes them.
+module _ (ms : List ℕ) where
+  -- 12 an absent task, 14 an absent card
+  abbrev pub absent : ChannelAction Letter → ℕ
+  absent (dispatch i l) = cond (ltb i (cardsOf ms)) 0 14
+  absent (takeBroadcast i) = cond (ltb i (cardsOf ms)) 0 14
+  absent (takeSingle t) = cond (ltb t (tasksOf ms)) 0 12
+  absent (deliver i) = cond (ltb i (cardsOf ms)) 0 14
+
+  -- 6 a letter with a field past its limit, or to nobody
+  abbrev pub unfit : ChannelAction Letter → ℕ
+  unfit (dispatch i l) = otherwise 6 (fits ms l)
+  unfit (takeBroadcast i) = 0
+  unfit (takeSingle t) = 0
+  unfit (deliver i) = 0
+
+  -- "rising number, then 6 for the outcome"
+  unfoldable pub callRefusal : ChannelState Letter → ChannelAction Letter → ℕ
+  callRefusal w x = orElse (absent x) (orElse (channelRefusal letterMail (cardsOf ms) w x) (unfit x))
+
+  -- the idealised channel that the memory is one of
+  abbrev pub letters : Setup Letter
+  letters = record {
+    mail = letterMail;
+    cards = cardsOf ms;
+    inRange = λ x. eqb (absent x) 0 && eqb (unfit x) 0;
+    blank = record { from = 0; body = letterAt [] 0 };
+  }
+
+  -- the refusals of a list of operations, newest first
+  unfoldable pub refusalsAfter : List (ChannelAction Letter) → List ℕ
+  refusalsAfter [] = []
+  refusalsAfter (x ∷ xs) = callRefusal (calls letters xs) x ∷ refusalsAfter xs
+
+-- two memories of the same numbers of cards, tasks and registers
+pub record SameSizes (us ws : List ℕ) : Type 0 where
+  pub cards : getD us cardsWord 0 ≡ getD ws cardsWord 0
+  pub tasks : getD us tasksWord 0 ≡ getD ws tasksWord 0
+  pub registers : getD us registersWord 0 ≡ getD ws registersWord 0
+
+-- One call on a memory that is well sized and shows the idealised state w.
+pub record CallFollows (ws : List ℕ) (w : ChannelState Letter) (c : Call) : Type 0 where
+  pub number : callNumber ws c ≡ callRefusal ws w (actionOf c)
+  pub shows : Shows (callMemory ws c) (cond (done (letters ws) w (actionOf c)) (channelStep letterMail w (actionOf c)) w)
+  pub sized : wellSized (callMemory ws c) ≡ true
+  pub long : length (callMemory ws c) ≡ 4808
+  pub sizes : SameSizes (callMemory ws c) ws
+  pub untouched : callNumber ws c ≢ 0 → callMemory ws c ≡ ws
+
+-- Any list of calls, refused ones included, from a memory ms that is just begun. `promise` is what 000 §4 states of a context multicast
+-- channel; `hands`: what a receive would hand up now is the message of the inbox's head.
+pub record RunFollows (ms : List ℕ) (cs : List Call) : Type 0 where
+  pub sized : wellSized (memoryAfter ms cs) ≡ true
+  pub long : length (memoryAfter ms cs) ≡ 4808
+  pub sizes : SameSizes (memoryAfter ms cs) ms
+  pub shows : Shows (memoryAfter ms cs) (calls (letters ms) (map actionOf cs))
+  pub answers : answersAfter ms cs ≡ refusalsAfter ms (map actionOf cs)
+  pub hands : (card : Card) → receiveAnswer (memoryAfter ms cs) card ≡ cond (ltb (card .0) (cardsOf ms)) (handedUp ((calls (letters ms) (map actionOf cs)) .inbox (card .0))) NoSuchCard
+  pub promise : CallsPromise (letters ms) (map actionOf cs)

@@ -1,0 +1,34 @@
+-- The same channel with its messages under other names.
+use mathlib.Core.Path.{_≡_}
+use mathlib.Core.Bool.{true}
+use mathlib.Core.List.{map}
+use mathlib.Core.Option.{Option·map}
+use Prim.Native.Nat.{ℕ}
+use Rattle.channel.specs.Mail.{Mail}
+use Rattle.channel.specs.State.{Tagged, ChannelState, ChannelAction, dispatch, takeBroadcast, takeSingle, deliver}
+
+module _ {M N : Type 0} (h : M → N) where
+  abbrev pub tag-map : Tagged M → Tagged N
+  tag-map x = record { msg = h (x .msg); mark = x .mark }
+
+  abbrev pub channel-map : ChannelState M → ChannelState N
+  channel-map w = record {
+    sent = map h (w .sent);
+    taken = w .taken;
+    flight = λ c. Option·map tag-map (w .flight c);
+    held = λ i. map tag-map (w .held i);
+    inbox = λ i. map h (w .inbox i);
+  }
+
+  abbrev pub action-map : ChannelAction M → ChannelAction N
+  action-map (dispatch i m) = dispatch i (h m)
+  action-map (takeBroadcast i) = takeBroadcast i
+  action-map (takeSingle c) = takeSingle c
+  action-map (deliver i) = deliver i
+
+  -- The channel reads off h m what it reads off m. Who is a destination it asks of broadcasts only.
+  pub record Alike (a : Mail M) (b : Mail N) : Type 0 where
+    pub task= : (m : M) → b .task (h m) ≡ a .task m
+    pub multi= : (m : M) → b .multi (h m) ≡ a .multi m
+    pub to= : (m : M) → a .multi m ≡ true → (i : ℕ) → b .to (h m) i ≡ a .to m i
+    pub dest= : (m : M) → b .dest (h m) ≡ a .dest m
