@@ -119,6 +119,7 @@ module _ {M : Type 0} (N : Network M) where
   arrived-epoch m t a w E g v (entered D y e) j = epoch-joined N E v y ∙ e
 
   -- the tag is the number of broadcasts that the sender had taken when it multicast the message
-  pub flight-tag : (w : ChannelState M) (E : List (Step M)) → Agrees N w E → ChannelExecution N E → (c : ℕ) (x : Tagged M) {B : List (Step M)} → w .flight c ≡ some x
+  pub flight-tag : (w : ChannelState M) (E : List (Step M)) → Agrees N w E → ChannelExecution N E
+      → (c : ℕ) (x : Tagged M) {B : List (Step M)} → w .flight c ≡ some x
       → At (Mcasts (x .msg)) B E → x .mark ≡ (chan N B) .taken (N .from (x .msg))
   flight-tag w E g v c x e y = let l = g .flies c x e .0 in sym (l .tag-is) ∙ tag N v (l .alone) y

@@ -36,12 +36,14 @@ module _ {M : Type 0} (C : Setup M) (xs : List (ChannelAction M)) where
       go true = arrived-step N m t a (state ys) (run ys) (upto C xs ys s .agrees) (numbering (length (posted C ys)) x) r
       go false = r
 
-  lasting : (m t a : ℕ) {ys zs : List (ChannelAction M)} → Suf ys zs → Suf zs xs → Arrived N m t a (state ys) (run ys) → Arrived N m t a (state zs) (run zs)
+  lasting : (m t a : ℕ) {ys zs : List (ChannelAction M)} → Suf ys zs → Suf zs xs → Arrived N m t a (state ys) (run ys)
+      → Arrived N m t a (state zs) (run zs)
   lasting m t a stop s r = r
   lasting m t a (back {e = x} {E = zs} p) s r = onward m t a x zs (suf-tail s) (lasting m t a p (suf-tail s) r)
 
   -- step 8 at some moment, of a message that has joined by the end
-  pub epoch-arrival : (ys : List (ChannelAction M)) (c : ℕ) (x : Tagged ℕ) → Suf (takeSingle c ∷ ys) xs → done C (calls C ys) (takeSingle c) ≡ true
+  pub epoch-arrival : (ys : List (ChannelAction M)) (c : ℕ) (x : Tagged ℕ) → Suf (takeSingle c ∷ ys) xs
+      → done C (calls C ys) (takeSingle c) ≡ true
       → (state ys) .flight c ≡ some x → Any (Joins (x .msg)) (run xs)
       → epoch N (run xs) (x .msg) ≡ max (x .mark) ((state ys) .taken (N .mail .dest (x .msg)))
   epoch-arrival ys c x s d e j =

@@ -82,7 +82,7 @@ module _ {M : Type 0} (C : Setup M) (xs : List (ChannelAction M)) where
   abbrev run : List (ChannelAction M) → List (Step ℕ)
   run = trace C P
 
-  alike : Alike h (N .mail) (C .mail)
+  pub alike : Alike h (N .mail) (C .mail)
   alike = record { task= = λ k. refl; multi= = λ k. refl; to= = λ k u i. rw u; dest= = λ k. refl }
 
   -- numbers in place of messages: where the run stands
@@ -93,7 +93,7 @@ module _ {M : Type 0} (C : Setup M) (xs : List (ChannelAction M)) where
     pub shown : p ≡ channel-map h w
 
   module _ (x : ChannelAction M) (ys : List (ChannelAction M)) (s : Suf (x ∷ ys) xs) (d : done C (plain ys) x ≡ true) where
-    renamed : action-map h (numbering (length (given ys)) x) ≡ x
+    pub renamed : action-map h (numbering (length (given ys)) x) ≡ x
     renamed = go x s d
       where
         go : (x : ChannelAction M) → Suf (x ∷ ys) xs → done C (plain ys) x ≡ true

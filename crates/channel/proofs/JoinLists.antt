@@ -6,7 +6,7 @@ use mathlib.Core.Bool.{Bool, true, false, cond}
 use mathlib.Core.List.{List, [], _∷_, _++_, append-assoc, append-nil}
 use mathlib.Core.Option.{Option, none, some}
 use Prim.Native.Nat.{ℕ, suc, _≤_}
-use Rattle.lists.specs.Histories.{Any, Suf, stop, back, suf-trans, In, here, there}
+use Rattle.lists.specs.Histories.{Any, Suf, suf-any, stop, back, suf-trans, In, here, there}
 use Rattle.lists.specs.Queues.{push, Once}
 use Rattle.channel.specs.Mail.{Mail}
 use Rattle.channel.specs.State.{Tagged, ChannelState, nth, released, ChannelAction, dispatch, takeBroadcast, takeSingle, deliver}
@@ -18,6 +18,10 @@ module _ {M : Type 0} (N : Network M) where
   pub joins-suf : (l : List M) (E : List (Step M)) → Suf E (joins l E)
   joins-suf [] E = stop
   joins-suf (a ∷ l) E = suf-trans (back stop) (joins-suf l (join a ∷ E))
+
+  pub joins-in : (l : List M) (E : List (Step M)) {m : M} → In m l → Any (Joins m) (joins l E)
+  joins-in (a ∷ l) E (here p) = suf-any (joins-suf l (join a ∷ E)) (here {e = join a} p)
+  joins-in (a ∷ l) E (there h) = joins-in l (join a ∷ E) h
 
   pub joins-mcast : (l : List M) {E : List (Step M)} {m : M} → Any (Mcasts m) E → Any (Mcasts m) (joins l E)
   joins-mcast [] h = h

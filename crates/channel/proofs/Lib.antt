@@ -28,3 +28,6 @@ pub mod Prompt
 pub mod Mistakes
 pub mod Arrivals
 pub mod CallsEpoch
+pub mod NothingLost
+pub mod Delivered
+pub mod CallsComplete

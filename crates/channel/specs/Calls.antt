@@ -46,6 +46,10 @@ pub record Setup (M : Type 0) : Type 0 where
   pub blank : Posted M  -- what a number names that was never given
 
 module _ {M : Type 0} (C : Setup M) where
+  -- where the channel brings a message: a broadcast to its destinations, another message to its one destination
+  abbrev pub goes : M → ℕ → Bool
+  goes m i = cond (C .mail .multi m) (C .mail .to m i) (eqb i (C .mail .dest m))
+
   -- a call is done if what it names is in range and nothing refuses it
   abbrev pub done : ChannelState M → ChannelAction M → Bool
   done w x = C .inRange x && eqb (channelRefusal (C .mail) (C .cards) w x) 0
@@ -65,11 +69,10 @@ module _ {M : Type 0} (C : Setup M) where
     abbrev pub letter : ℕ → M
     letter k = (getD P k (C .blank)) .body
 
-    -- where a message goes: a broadcast to its destinations, another message to its one destination
     abbrev pub numberedMail : Mail ℕ
     numberedMail = record {
       task = λ k. C .mail .task (letter k);
-      to = λ k i. cond (C .mail .multi (letter k)) (C .mail .to (letter k) i) (eqb i (C .mail .dest (letter k)));
+      to = λ k. goes (letter k);
       multi = λ k. C .mail .multi (letter k);
       dest = λ k. C .mail .dest (letter k);
     }

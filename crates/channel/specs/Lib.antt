@@ -10,3 +10,4 @@ pub mod ContextMulticast
 pub mod Renaming
 pub mod Calls
 pub mod Examples
+pub mod AtRest
