@@ -13,16 +13,14 @@ use lib.Seq.{getD-at}
 use Rattle.lists.specs.Tests.{and-fst, and-snd}
 use Rattle.lists.specs.Histories.{Any, Suf, stop, suf-tail, any-map, any-split}
 use Rattle.channel.specs.Promise.{McastTo, IsReceive}
-use Rattle.channel.specs.ContextMulticast.{ContextMulticast}
 use Rattle.channel.specs.State.{ChannelState, ChannelAction, dispatch, takeBroadcast, takeSingle, deliver, channelStep}
 use Rattle.channel.specs.Refusals.{channelRefusal}
 use Rattle.channel.specs.Network.{Network}
 use Rattle.channel.specs.Automaton.{Step, external}
-use Rattle.channel.specs.TotalOrder.{Before}
 use Rattle.channel.specs.Trace.{steps}
 use Rattle.channel.specs.Renaming.{tag-map, channel-map}
 use Rattle.channel.specs.Calls.{Posted, Setup, posting, numbering, done, calls, posted, letter, numbers, numbered, trace}
-use Rattle.channel.specs.AtRest.{AtRest, GoesToCards}
+use Rattle.channel.specs.AtRest.{AtRest, CallsComplete}
 use Rattle.channel.proofs.KeepsPromise.{to→, →gets}
 use Rattle.channel.proofs.PaperWording.{channel-complete}
 use Rattle.channel.proofs.NothingLost.{Safe, safe-start, step-safe}
@@ -108,7 +106,7 @@ module _ {M : Type 0} (C : Setup M) (xs : List (ChannelAction M)) where
       go true d r = step-safe N (state ys) (run ys) r (C .cards) (numbering (length (posted C ys)) x) (not-refused x ys s d)
 
   -- 000 Theorem 6.1 of a run that has come to rest: reliable, totally ordered, well-founded, receive consistent and context safe
-  pub calls-complete : GoesToCards C → AtRest (C .cards) (calls C xs) → ContextMulticast (external N) (Before N (run xs)) (run xs)
+  pub calls-complete : CallsComplete C xs
   calls-complete g r = channel-complete N (run xs) (u .execution) all
     where
       u : Upto C xs (calls C xs) (posted C xs) (state xs) (run xs)

@@ -1,7 +1,7 @@
 -- Any list of calls of the channel, refused ones included, and what is promised of it. The calls' messages may repeat; a message's identity
 -- is the number of the dispatch that was done with it.
 use mathlib.Core.Path.{_≡_}
-use mathlib.Core.Bool.{Bool, cond, _&&_}
+use mathlib.Core.Bool.{Bool, true, cond, _&&_}
 use mathlib.Core.List.{List, [], _∷_, _++_}
 use Prim.Native.Nat.{ℕ, _<_}
 use lib.Dec.{eqb}
@@ -14,7 +14,7 @@ use Rattle.channel.specs.Mail.{Mail}
 use Rattle.channel.specs.State.{Tagged, ChannelState, initialChannel, ChannelAction, dispatch, takeBroadcast, takeSingle, deliver, channelStep}
 use Rattle.channel.specs.Refusals.{channelRefusal}
 use Rattle.channel.specs.Network.{Network}
-use Rattle.channel.specs.Automaton.{Step, external}
+use Rattle.channel.specs.Automaton.{Step, mcast, receive, external}
 use Rattle.channel.specs.TotalOrder.{rank}
 use Rattle.channel.specs.Trace.{steps}
 use Rattle.channel.specs.Renaming.{channel-map}
@@ -96,6 +96,15 @@ module _ {M : Type 0} (C : Setup M) where
     abbrev pub trace : List (ChannelAction M) → List (Step ℕ)
     trace [] = []
     trace (x ∷ xs) = cond (done (calls xs) x) (steps numberedMail (numbered xs) (numbering (length (posted xs)) x) (trace xs)) (trace xs)
+
+  -- What the events are: a dispatch that is done multicasts its message, from its card, under the next number; a receive that is done hands
+  -- up the head of the card's inbox, which is the message that its number names.
+  pub record CallsEvents (xs : List (ChannelAction M)) : Type 0 where
+    pub multicasts : (ys : List (ChannelAction M)) (i : ℕ) (m : M) → Suf (dispatch i m ∷ ys) xs → done (calls ys) (dispatch i m) ≡ true
+        → (trace (posted xs) (dispatch i m ∷ ys) ≡ mcast (length (posted ys)) ∷ trace (posted xs) ys)
+        × (getD (posted xs) (length (posted ys)) (C .blank) ≡ record { from = i; body = m })
+    pub receives : (ys : List (ChannelAction M)) (i : ℕ) → Suf (deliver i ∷ ys) xs → done (calls ys) (deliver i) ≡ true
+        → (k : ℕ) × (r : List M) × ((calls ys) .inbox i ≡ letter (posted xs) k ∷ r) × (trace (posted xs) (deliver i ∷ ys) ≡ receive k i ∷ trace (posted xs) ys)
 
   -- What is promised of a list of calls. `promise`: with 000 §6.2's order T as rank, the multicasts and receives keep the promise.
   -- `number-once`: a number is multicast once. `shows`: at every moment the state is that of the numbers, with messages for numbers.
