@@ -19,7 +19,7 @@ use Rattle.channel.specs.Network.{Network}
 use Rattle.channel.specs.Automaton.{Step, external}
 use Rattle.channel.specs.Trace.{steps}
 use Rattle.channel.specs.Renaming.{tag-map, channel-map}
-use Rattle.channel.specs.Calls.{Posted, Setup, posting, numbering, done, calls, posted, letter, numbers, numbered, trace}
+use Rattle.channel.specs.Calls.{Posted, Setup, posting, numbering, done, calls, posted, letter, network, numbered, trace}
 use Rattle.channel.specs.AtRest.{AtRest, CallsComplete}
 use Rattle.channel.proofs.KeepsPromise.{to→, →gets}
 use Rattle.channel.proofs.PaperWording.{channel-complete}
@@ -77,7 +77,7 @@ module _ {M N : Type 0} (h : M → N) where
 
 module _ {M : Type 0} (C : Setup M) (xs : List (ChannelAction M)) where
   abbrev N : Network ℕ
-  N = numbers C (posted C xs)
+  N = network C xs
 
   abbrev state : List (ChannelAction M) → ChannelState ℕ
   state = numbered C (posted C xs)

@@ -13,13 +13,13 @@ use Rattle.channel.specs.Network.{Network}
 use Rattle.channel.specs.Automaton.{Step, Mcasts, Joins, Chan, chan}
 use Rattle.channel.specs.TotalOrder.{epoch}
 use Rattle.channel.specs.Trace.{steps}
-use Rattle.channel.specs.Calls.{Setup, numbering, done, calls, posted, numbers, numbered, trace}
+use Rattle.channel.specs.Calls.{Setup, numbering, done, calls, posted, network, numbered, trace}
 use Rattle.channel.proofs.Arrivals.{Arrived, arrived-step, arrival, arrived-epoch, flight-tag}
 use Rattle.channel.proofs.CallsKeepPromise.{upto}
 
 module _ {M : Type 0} (C : Setup M) (xs : List (ChannelAction M)) where
   abbrev N : Network ℕ
-  N = numbers C (posted C xs)
+  N = network C xs
 
   abbrev state : List (ChannelAction M) → ChannelState ℕ
   state = numbered C (posted C xs)

@@ -13,7 +13,7 @@ use Rattle.channel.specs.Refusals.{receiveRefusal, channelRefusal}
 use Rattle.channel.specs.Network.{Network}
 use Rattle.channel.specs.Automaton.{Step, receive}
 use Rattle.channel.specs.Trace.{steps-deliver, steps}
-use Rattle.channel.specs.Calls.{Setup, numbering, done, calls, posted, letter, numbers, numbered, trace, CallsEvents}
+use Rattle.channel.specs.Calls.{Setup, numbering, done, calls, posted, letter, network, numbered, trace, CallsEvents}
 use Rattle.channel.proofs.Postings.{posted-new}
 use Rattle.channel.proofs.CallsKeepPromise.{upto}
 
@@ -29,8 +29,8 @@ module _ {M : Type 0} (C : Setup M) (xs : List (ChannelAction M)) where
 
   -- a call that is done adds its steps
   done-trace : (x : ChannelAction M) (ys : List (ChannelAction M)) → done C (calls C ys) x ≡ true
-      → run (x ∷ ys) ≡ steps ((numbers C (posted C xs)) .mail) (state ys) (numbering (length (posted C ys)) x) (run ys)
-  done-trace x ys d = ap (λ t. cond t (steps ((numbers C (posted C xs)) .mail) (state ys) (numbering (length (posted C ys)) x) (run ys)) (run ys)) d
+      → run (x ∷ ys) ≡ steps ((network C xs) .mail) (state ys) (numbering (length (posted C ys)) x) (run ys)
+  done-trace x ys d = ap (λ t. cond t (steps ((network C xs) .mail) (state ys) (numbering (length (posted C ys)) x) (run ys)) (run ys)) d
 
   -- and a receive is refused of an empty inbox
   filled : (w : ChannelState M) (i : ℕ) → channelRefusal (C .mail) (C .cards) w (deliver i) ≡ 0 → ¬ (w .inbox i ≡ [])

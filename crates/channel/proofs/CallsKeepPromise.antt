@@ -15,7 +15,7 @@ use Rattle.channel.specs.Network.{Network}
 use Rattle.channel.specs.Automaton.{Step, mcast, take, join, Mcasts, ChannelExecution}
 use Rattle.channel.specs.Trace.{steps-take, steps-single, steps-deliver, steps}
 use Rattle.channel.specs.Renaming.{channel-map, action-map, Alike}
-use Rattle.channel.specs.Calls.{Posted, Setup, posting, numbering, done, calls, posted, letter, numbers, numbered, trace, CallsPromise}
+use Rattle.channel.specs.Calls.{Posted, Setup, posting, numbering, done, calls, posted, letter, network, numbered, trace, CallsPromise}
 use Rattle.channel.proofs.Counts.{flow, mcast-once}
 use Rattle.channel.proofs.Held.{holds-in}
 use Rattle.channel.proofs.JoinLists.{mcast-joins}
@@ -65,7 +65,7 @@ module _ {M : Type 0} (C : Setup M) (xs : List (ChannelAction M)) where
   P = posted C xs
 
   abbrev N : Network ℕ
-  N = numbers C P
+  N = network C xs
 
   abbrev h : ℕ → M
   h = letter C P

@@ -9,7 +9,7 @@ use Rattle.channel.specs.ContextMulticast.{ContextMulticast}
 use Rattle.channel.specs.State.{ChannelState, ChannelAction, dispatch}
 use Rattle.channel.specs.Automaton.{external}
 use Rattle.channel.specs.TotalOrder.{Before}
-use Rattle.channel.specs.Calls.{Setup, goes, calls, posted, numbers, trace}
+use Rattle.channel.specs.Calls.{Setup, goes, calls, network, history}
 
 pub record AtRest {M : Type 0} (cards : ℕ) (w : ChannelState M) : Type 0 where
   pub none-flying : (c : ℕ) → w .flight c ≡ none
@@ -24,4 +24,4 @@ GoesToCards {M} C = (i : ℕ) (m : M) → C .inRange (dispatch i m) ≡ true →
 -- a list of calls that leaves the channel at rest is a complete run of a context multicast channel (000 Theorem 6.1)
 abbrev pub CallsComplete : {M : Type 0} → Setup M → List (ChannelAction M) → Type 0
 CallsComplete C xs = GoesToCards C → AtRest (C .cards) (calls C xs)
-    → ContextMulticast (external (numbers C (posted C xs))) (Before (numbers C (posted C xs)) (trace C (posted C xs) xs)) (trace C (posted C xs) xs)
+    → ContextMulticast (external (network C xs)) (Before (network C xs) (history C xs)) (history C xs)

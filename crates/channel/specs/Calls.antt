@@ -97,6 +97,13 @@ module _ {M : Type 0} (C : Setup M) where
     trace [] = []
     trace (x ∷ xs) = cond (done (calls xs) x) (steps numberedMail (numbered xs) (numbering (length (posted xs)) x) (trace xs)) (trace xs)
 
+  -- of a whole list of calls: its messages by their numbers, and its history
+  abbrev pub network : List (ChannelAction M) → Network ℕ
+  network xs = numbers (posted xs)
+
+  abbrev pub history : List (ChannelAction M) → List (Step ℕ)
+  history xs = trace (posted xs) xs
+
   -- What the events are: a dispatch that is done multicasts its message, from its card, under the next number; a receive that is done hands
   -- up the head of the card's inbox, which is the message that its number names.
   pub record CallsEvents (xs : List (ChannelAction M)) : Type 0 where
@@ -110,8 +117,8 @@ module _ {M : Type 0} (C : Setup M) where
   -- `number-once`: a number is multicast once. `shows`: at every moment the state is that of the numbers, with messages for numbers.
   -- `prompt`: what is held has a tag above the number of broadcasts taken there, so nothing is held longer than its tag asks.
   pub record CallsPromise (xs : List (ChannelAction M)) : Type 0 where
-    pub promise : Promise (external (numbers (posted xs))) (rank (numbers (posted xs)) (trace (posted xs) xs)) (trace (posted xs) xs)
-    pub number-once : (k : ℕ) (B : List (Step ℕ)) → At (λ e. IsMcast k (external (numbers (posted xs)) e)) B (trace (posted xs) xs)
-        → ¬ Any (λ e. IsMcast k (external (numbers (posted xs)) e)) B
+    pub promise : Promise (external (network xs)) (rank (network xs) (history xs)) (history xs)
+    pub number-once : (k : ℕ) (B : List (Step ℕ)) → At (λ e. IsMcast k (external (network xs) e)) B (history xs)
+        → ¬ Any (λ e. IsMcast k (external (network xs) e)) B
     pub shows : (ys : List (ChannelAction M)) → Suf ys xs → calls ys ≡ channel-map (letter (posted xs)) (numbered (posted xs) ys)
     pub prompt : (i : ℕ) (x : Tagged M) → In x ((calls xs) .held i) → (calls xs) .taken i < x .mark
