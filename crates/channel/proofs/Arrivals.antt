@@ -97,7 +97,8 @@ module _ {M : Type 0} (N : Network M) where
   pub arrival : (w : ChannelState M) (E : List (Step M)) → Agrees N w E → (c : ℕ) (x : Tagged M) → w .flight c ≡ some x
       → Arrived (x .msg) (x .mark) (w .taken (N .mail .dest (x .msg))) (channelStep (N .mail) w (takeSingle c)) (steps (N .mail) w (takeSingle c) E)
   arrival w E g c x e =
-      subst (λ o. Arrived (x .msg) (x .mark) (w .taken i) (arriving (N .mail) w c o) (steps-single (N .mail) w o E)) (sym e) (go (leb (x .mark) (w .taken i)) refl)
+      subst (λ o. Arrived (x .msg) (x .mark) (w .taken i) (arriving (N .mail) w c o) (steps-single (N .mail) w o E)) (sym e)
+      (go (leb (x .mark) (w .taken i)) refl)
     where
       i : ℕ
       i = N .mail .dest (x .msg)

@@ -48,8 +48,10 @@ module _ {M : Type 0} (C : Setup M) where
           more = length-append (posted C xs) (record { from = i; body = m } ∷ []) ∙ add-one (length (posted C xs))
 
           pick : Dec (k < length (posted C xs))
-              → C .inRange (dispatch ((getD (posting (dispatch i m) (posted C xs)) k (C .blank)) .from) ((getD (posting (dispatch i m) (posted C xs)) k (C .blank)) .body)) ≡ true
-          pick (yes q) = ap (λ a. C .inRange (dispatch (a .from) (a .body))) (List·getD-append (posted C xs) (record { from = i; body = m } ∷ []) (C .blank) k q) ∙ r q
+              → C .inRange (dispatch ((getD (posting (dispatch i m) (posted C xs)) k (C .blank)) .from)
+              ((getD (posting (dispatch i m) (posted C xs)) k (C .blank)) .body)) ≡ true
+          pick (yes q) = ap (λ a. C .inRange (dispatch (a .from) (a .body)))
+              (List·getD-append (posted C xs) (record { from = i; body = m } ∷ []) (C .blank) k q) ∙ r q
           pick (no q) =
               ap (λ a. C .inRange (dispatch (a .from) (a .body))) (getD-at (posted C xs) (record { from = i; body = m }) [] (C .blank) k (omega (arith, more)))
               ∙ ap (C .inRange) (sym e) ∙ and-fst (C .inRange x) _ d
@@ -90,7 +92,8 @@ module _ {M : Type 0} (C : Setup M) (xs : List (ChannelAction M)) where
       → channelRefusal (N .mail) (C .cards) (state ys) (numbering (length (posted C ys)) x) ≡ 0
   not-refused x ys s d =
       let u = upto C xs ys (suf-tail s) in
-      sym (channelRefusal-map (letter C (posted C xs)) (N .mail) (C .mail) (alike C xs) (C .cards) (state ys) (λ n m e. u .agrees .sent= n m e .0) (numbering (length (posted C ys)) x))
+      sym (channelRefusal-map (letter C (posted C xs)) (N .mail) (C .mail) (alike C xs) (C .cards) (state ys) (λ n m e. u .agrees .sent= n m e .0)
+      (numbering (length (posted C ys)) x))
       ∙ ap (channelRefusal (C .mail) (C .cards) (channel-map (letter C (posted C xs)) (state ys))) (renamed C xs x ys s d)
       ∙ ap (λ w. channelRefusal (C .mail) (C .cards) w x) (sym (u .shown))
       ∙ eqb-true _ _ (and-snd (C .inRange x) _ d)

@@ -47,11 +47,13 @@ module _ {M : Type 0} (C : Setup M) (xs : List (ChannelAction M)) where
       → (state ys) .flight c ≡ some x → Any (Joins (x .msg)) (run xs)
       → epoch N (run xs) (x .msg) ≡ max (x .mark) ((state ys) .taken (N .mail .dest (x .msg)))
   epoch-arrival ys c x s d e j =
-      arrived-epoch N (x .msg) (x .mark) ((state ys) .taken (N .mail .dest (x .msg))) (state xs) (run xs) (upto C xs xs stop .agrees) (upto C xs xs stop .execution)
+      arrived-epoch N (x .msg) (x .mark) ((state ys) .taken (N .mail .dest (x .msg))) (state xs) (run xs) (upto C xs xs stop .agrees)
+      (upto C xs xs stop .execution)
       (lasting (x .msg) (x .mark) ((state ys) .taken (N .mail .dest (x .msg))) s stop first) j
     where
       first : Arrived N (x .msg) (x .mark) ((state ys) .taken (N .mail .dest (x .msg))) (state (takeSingle c ∷ ys)) (run (takeSingle c ∷ ys))
-      first = subst (λ b. Arrived N (x .msg) (x .mark) ((state ys) .taken (N .mail .dest (x .msg))) (cond b (channelStep (N .mail) (state ys) (takeSingle c)) (state ys))
+      first = subst (λ b. Arrived N (x .msg) (x .mark) ((state ys) .taken (N .mail .dest (x .msg)))
+          (cond b (channelStep (N .mail) (state ys) (takeSingle c)) (state ys))
           (cond b (steps (N .mail) (state ys) (takeSingle c) (run ys)) (run ys))) (sym d)
           (arrival N (state ys) (run ys) (upto C xs ys (suf-tail s) .agrees) c x e)
 

@@ -39,7 +39,8 @@ module _ {M : Type 0} (C : Setup M) (xs : List (ChannelAction M)) where
 
   received : (ys : List (ChannelAction M)) (i : ℕ) → Suf ys xs → done C (calls C ys) (deliver i) ≡ true → (l : List ℕ) → (state ys) .inbox i ≡ l
       → (k : ℕ) × (r : List M) × ((calls C ys) .inbox i ≡ h k ∷ r) × (steps-deliver ((state ys) .inbox i) i (run ys) ≡ receive k i ∷ run ys)
-  received ys i s d [] e = absurd (filled (calls C ys) i (eqb-true _ _ (and-snd (C .inRange (deliver i)) _ d)) (ap (λ w. w .inbox i) (upto C xs ys s .shown) ∙ ap (map h) e))
+  received ys i s d [] e = absurd (filled (calls C ys) i (eqb-true _ _ (and-snd (C .inRange (deliver i)) _ d))
+      (ap (λ w. w .inbox i) (upto C xs ys s .shown) ∙ ap (map h) e))
   received ys i s d (k ∷ r) e = (k, map h r, ap (λ w. w .inbox i) (upto C xs ys s .shown) ∙ ap (map h) e, ap (λ l. steps-deliver l i (run ys)) e)
 
   pub calls-events : CallsEvents C xs

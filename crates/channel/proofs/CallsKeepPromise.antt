@@ -119,7 +119,8 @@ module _ {M : Type 0} (C : Setup M) (xs : List (ChannelAction M)) where
     where
       go : (t : Bool) → done C (plain ys) x ≡ t
           → Upto (cond t (channelStep (C .mail) (plain ys) x) (plain ys)) (cond t (posting x (given ys)) (given ys))
-          (cond t (channelStep (N .mail) (state ys) (numbering (length (given ys)) x)) (state ys)) (cond t (steps (N .mail) (state ys) (numbering (length (given ys)) x) (run ys)) (run ys))
+          (cond t (channelStep (N .mail) (state ys) (numbering (length (given ys)) x)) (state ys))
+          (cond t (steps (N .mail) (state ys) (numbering (length (given ys)) x) (run ys)) (run ys))
       go false d = u
       go true d =
           let k = channelStep-keeps N (state ys) (run ys) (u .agrees) (u .execution) (numbering (length (given ys)) x) (fresh x ys s d (u .low)) in

@@ -27,7 +27,8 @@ in-place (there h) = let r = in-place h in let k = r .1 in (suc (r .0), omega ar
 module _ {M : Type 0} (N : Network M) (w : ChannelState M) (E : List (Step M)) (a : Agrees N w E) (v : ChannelExecution N E) (s : Safe N w E) (cards : ℕ) (r : AtRest cards w) where
   -- what ever joined the inbox has left it
   left : (m : M) (i : ℕ) → i < cards → In m (log N E i) → Any (Receives m i) E
-  left m i c h = gone-receives N E m i (subst (In m) (queue N E v i ∙ ap (λ l. gone N E i ++ l) (sym (a .inbox= i) ∙ r .all-received i c) ∙ append-nil (gone N E i)) h)
+  left m i c h = gone-receives N E m i (subst (In m) (queue N E v i ∙ ap (λ l. gone N E i ++ l) (sym (a .inbox= i) ∙ r .all-received i c)
+      ∙ append-nil (gone N E i)) h)
 
   pub delivered : (m : M) (i : ℕ) → i < cards → Any (Mcasts m) E → N .mail .to m i ≡ true → Any (Receives m i) E
   delivered m i c h t = go (N .mail .multi m) refl

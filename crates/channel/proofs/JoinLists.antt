@@ -71,12 +71,14 @@ module _ {M : Type 0} (N : Network M) where
       go false = refl
 
   pub joins-flows : (l : List M) (E : List (Step M)) → ChannelExecution N E → Once l
-      → ((m : M) → In m l → (N .mail .multi m ≡ false) × Any (Mcasts m) E × (¬ Any (Joins m) E) × ((chan N E) .mark m ≤ (chan N E) .taken (N .mail .dest m))) → ChannelExecution N (joins l E)
+      → ((m : M) → In m l → (N .mail .multi m ≡ false) × Any (Mcasts m) E × (¬ Any (Joins m) E) ×
+      ((chan N E) .mark m ≤ (chan N E) .taken (N .mail .dest m))) → ChannelExecution N (joins l E)
   joins-flows [] E v o f = v
   joins-flows (a ∷ l) E v o f = joins-flows l (join a ∷ E) (f a (here refl), v) (o .1) g
     where
       g : (m : M) → In m l
-          → (N .mail .multi m ≡ false) × Any (Mcasts m) (join a ∷ E) × (¬ Any (Joins m) (join a ∷ E)) × ((chan N E) .mark m ≤ (chan N E) .taken (N .mail .dest m))
+          → (N .mail .multi m ≡ false) × Any (Mcasts m) (join a ∷ E) × (¬ Any (Joins m) (join a ∷ E)) ×
+          ((chan N E) .mark m ≤ (chan N E) .taken (N .mail .dest m))
       g m h = let r = f m (there h) in (r .0, there (r .1), k, r .3)
         where
           k : ¬ Any (Joins m) (join a ∷ E)

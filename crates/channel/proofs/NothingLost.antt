@@ -72,9 +72,11 @@ module _ {M : Type 0} (N : Network M) where
         old m t e (joined j) = joined (there j)
 
         b : (m : M) → N .mail .multi m ≡ false → Any (Mcasts m) (mcast n ∷ E)
-            → OnWay m (cond (eqb (N .mail .task m) (N .mail .task n)) (some (record { msg = n; mark = w .taken i })) (w .flight (N .mail .task m))) (w .held (N .mail .dest m)) (mcast n ∷ E)
+            → OnWay m (cond (eqb (N .mail .task m) (N .mail .task n)) (some (record { msg = n; mark = w .taken i })) (w .flight (N .mail .task m)))
+            (w .held (N .mail .dest m)) (mcast n ∷ E)
         b m e (here p) =
-            flying (record { msg = n; mark = w .taken i }) (ap (λ t. cond t (some (record { msg = n; mark = w .taken i })) (w .flight (N .mail .task m))) (eqb-of (ap (N .mail .task) (sym p)))) p
+            flying (record { msg = n; mark = w .taken i }) (ap (λ t. cond t (some (record { msg = n; mark = w .taken i }))
+            (w .flight (N .mail .task m))) (eqb-of (ap (N .mail .task) (sym p)))) p
         b m e (there h) = old m (eqb (N .mail .task m) (N .mail .task n)) refl (s .comes m e h)
 
     -- step 7
@@ -97,12 +99,15 @@ module _ {M : Type 0} (N : Network M) where
         b m true e (held h) = go (names-holds h)
           where
             go : (t : ℕ) × Any (Holds m t) (w .held (N .mail .dest m))
-                → OnWay m (w .flight (N .mail .task m)) (kept (suc (w .taken i)) (w .held (N .mail .dest m))) (joins (released (suc (w .taken i)) (w .held i)) (take i n ∷ E))
+                → OnWay m (w .flight (N .mail .task m)) (kept (suc (w .taken i)) (w .held (N .mail .dest m)))
+                (joins (released (suc (w .taken i)) (w .held i)) (take i n ∷ E))
             go (t, y) = pick (ℕ-discrete t (suc (w .taken i)))
               where
                 pick : Dec (t ≡ suc (w .taken i))
-                    → OnWay m (w .flight (N .mail .task m)) (kept (suc (w .taken i)) (w .held (N .mail .dest m))) (joins (released (suc (w .taken i)) (w .held i)) (take i n ∷ E))
-                pick (yes q) = joined (joins-in N (released (suc (w .taken i)) (w .held i)) (take i n ∷ E) (in-released (subst (λ c. Any (Holds m t) (w .held c)) (eqb-true _ _ e) y) q))
+                    → OnWay m (w .flight (N .mail .task m)) (kept (suc (w .taken i)) (w .held (N .mail .dest m)))
+                    (joins (released (suc (w .taken i)) (w .held i)) (take i n ∷ E))
+                pick (yes q) = joined (joins-in N (released (suc (w .taken i)) (w .held i)) (take i n ∷ E)
+                    (in-released (subst (λ c. Any (Holds m t) (w .held c)) (eqb-true _ _ e) y) q))
                 pick (no q) = held (holds-names (in-kept y q))
 
     -- what flies for the task whose message arrives is that message
@@ -127,7 +132,8 @@ module _ {M : Type 0} (N : Network M) where
       where
         b : (m : M) (t : Bool) → eqb (N .mail .task m) c ≡ t → OnWay m (w .flight (N .mail .task m)) (w .held (N .mail .dest m)) E
             → OnWay m (cond t none (w .flight (N .mail .task m))) (push (eqb (N .mail .dest m) (N .mail .dest (x .msg))) x (w .held (N .mail .dest m))) E
-        b m true e (flying y q r) = let p = landed m f e q r in held (any-map (λ z k. ap (λ v. v .msg) k ∙ p) (push-new x (w .held (N .mail .dest m)) (eqb-of (ap (N .mail .dest) (sym p)))))
+        b m true e (flying y q r) = let p = landed m f e q r in held (any-map (λ z k. ap (λ v. v .msg) k ∙ p)
+            (push-new x (w .held (N .mail .dest m)) (eqb-of (ap (N .mail .dest) (sym p)))))
         b m false e (flying y q r) = flying y q r
         b m t e (held h) = held (push-old (eqb (N .mail .dest m) (N .mail .dest (x .msg))) x (w .held (N .mail .dest m)) h)
         b m t e (joined j) = joined j
