@@ -15,7 +15,7 @@ use Rattle.channel.specs.Network.{Network}
 use Rattle.channel.specs.Automaton.{Step, mcast, take, join, Mcasts, ChannelExecution}
 use Rattle.channel.specs.Trace.{steps-take, steps-single, steps-deliver, steps}
 use Rattle.channel.specs.Renaming.{channel-map, action-map, Alike}
-use Rattle.channel.specs.Calls.{Posted, Setup, posting, numbering, done, calls, posted, letter, numbers, numbered, trace, CallsPromise}
+use Rattle.channel.specs.Calls.{Posted, Setup, posting, numbering, done, calls, posted, letter, network, numbered, trace, CallsPromise}
 use Rattle.channel.proofs.Counts.{flow, mcast-once}
 use Rattle.channel.proofs.Held.{holds-in}
 use Rattle.channel.proofs.JoinLists.{mcast-joins}
@@ -65,7 +65,7 @@ module _ {M : Type 0} (C : Setup M) (xs : List (ChannelAction M)) where
   P = posted C xs
 
   abbrev N : Network ℕ
-  N = numbers C P
+  N = network C xs
 
   abbrev h : ℕ → M
   h = letter C P
@@ -82,7 +82,7 @@ module _ {M : Type 0} (C : Setup M) (xs : List (ChannelAction M)) where
   abbrev run : List (ChannelAction M) → List (Step ℕ)
   run = trace C P
 
-  alike : Alike h (N .mail) (C .mail)
+  pub alike : Alike h (N .mail) (C .mail)
   alike = record { task= = λ k. refl; multi= = λ k. refl; to= = λ k u i. rw u; dest= = λ k. refl }
 
   -- numbers in place of messages: where the run stands
@@ -93,7 +93,7 @@ module _ {M : Type 0} (C : Setup M) (xs : List (ChannelAction M)) where
     pub shown : p ≡ channel-map h w
 
   module _ (x : ChannelAction M) (ys : List (ChannelAction M)) (s : Suf (x ∷ ys) xs) (d : done C (plain ys) x ≡ true) where
-    renamed : action-map h (numbering (length (given ys)) x) ≡ x
+    pub renamed : action-map h (numbering (length (given ys)) x) ≡ x
     renamed = go x s d
       where
         go : (x : ChannelAction M) → Suf (x ∷ ys) xs → done C (plain ys) x ≡ true
@@ -119,7 +119,8 @@ module _ {M : Type 0} (C : Setup M) (xs : List (ChannelAction M)) where
     where
       go : (t : Bool) → done C (plain ys) x ≡ t
           → Upto (cond t (channelStep (C .mail) (plain ys) x) (plain ys)) (cond t (posting x (given ys)) (given ys))
-          (cond t (channelStep (N .mail) (state ys) (numbering (length (given ys)) x)) (state ys)) (cond t (steps (N .mail) (state ys) (numbering (length (given ys)) x) (run ys)) (run ys))
+          (cond t (channelStep (N .mail) (state ys) (numbering (length (given ys)) x)) (state ys))
+          (cond t (steps (N .mail) (state ys) (numbering (length (given ys)) x) (run ys)) (run ys))
       go false d = u
       go true d =
           let k = channelStep-keeps N (state ys) (run ys) (u .agrees) (u .execution) (numbering (length (given ys)) x) (fresh x ys s d (u .low)) in

@@ -23,6 +23,7 @@ pub mod SizedTakeBroadcast
 pub mod SizedTakeSingle
 pub mod SizedDispatch
 pub mod BeginLaw
+-- The automaton of 000 §6 keeps the promise
 pub mod Counts
 pub mod InboxHistory
 pub mod Joining
@@ -33,8 +34,12 @@ pub mod Rank
 pub mod PromiseParts
 pub mod Distinct
 pub mod KeepsPromise
+-- The order T, the paper's wording, and what the promise refuses
 pub mod RankOrder
 pub mod PromiseLaws
+pub mod PaperWording
+pub mod Mistakes
+-- The channel's state keeps step with the automaton
 pub mod Held
 pub mod Agreement
 pub mod JoinLists
@@ -43,15 +48,19 @@ pub mod TakeBroadcastKeeps
 pub mod TakeSingleKeeps
 pub mod DeliverKeeps
 pub mod ChannelKeeps
-pub mod PaperWording
+pub mod Arrivals
+pub mod NothingLost
+pub mod Delivered
+pub mod Prompt
+-- The same under other names
 pub mod RenamedLists
 pub mod RenamedSteps
 pub mod RenamedRefusals
+-- Any list of calls
 pub mod Postings
 pub mod CallsKeepPromise
-pub mod Prompt
-pub mod Mistakes
-pub mod Arrivals
+pub mod CallsEvents
 pub mod CallsEpoch
 pub mod CallLaws
 pub mod RunLaw
+pub mod CallsComplete

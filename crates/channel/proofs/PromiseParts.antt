@@ -35,7 +35,8 @@ module _ {M : Type 0} (N : Network M) (E : List (Step M)) (v : ChannelExecution 
       behind : N .mail .multi n ≡ true → In n (log N B i) → Any (Receives n i) B
       behind u l =
           let p = receiving N v x in
-          gone-receives N B n i (less-before (joinKey N E) (gone N B i) (p .0) (subst (Sorted (joinKey N E)) (p .1) (log-sorted N E v B i (at-suf x))) (subst (In n) (p .1) l) (pick (N .mail .multi m) refl))
+          gone-receives N B n i (less-before (joinKey N E) (gone N B i) (p .0) (subst (Sorted (joinKey N E)) (p .1) (log-sorted N E v B i (at-suf x)))
+          (subst (In n) (p .1) l) (pick (N .mail .multi m) refl))
         where
           pick : (w : Bool) → N .mail .multi m ≡ w → joinKey N E n < joinKey N E m
           pick true w =
@@ -81,7 +82,8 @@ module _ {M : Type 0} (N : Network M) (E : List (Step M)) (v : ChannelExecution 
           pick (no j) =
               let a = any-at y in
               let r = rank-unreceived N E v u (a .1) j in
-              let z = enc-place (bound N E) ((chan N B) .taken i) (suc (length B)) (limit N E) (suc (length (a .0))) (taken-limit N E v i x) (time-low N E v x) in
+              let z = enc-place (bound N E) ((chan N B) .taken i) (suc (length B)) (limit N E) (suc (length (a .0))) (taken-limit N E v i x)
+              (time-low N E v x) in
               absurd (omega (arith, low))
           pick (yes j) = when (any-at j .0) (subst (λ c. At (Receives n c) (any-at j .0) E) (only-dest N E v u t) (any-at j .1))
             where
@@ -106,7 +108,8 @@ module _ {M : Type 0} (N : Network M) (E : List (Step M)) (v : ChannelExecution 
           let k = received-below N E v (suf-at (at-suf x) (c .1)) in
           let l = at-length (c .1) in
           let t = taken-suf N (N .from m) (at-suf (c .1)) in
-          let z = enc-time (bound N E) ((chan N (c .0)) .taken (N .from m)) (suc (length (c .0))) ((chan N B) .taken (N .from m)) (suc (length B)) t (omega arith) in
+          let z = enc-time (bound N E) ((chan N (c .0)) .taken (N .from m)) (suc (length (c .0))) ((chan N B) .taken (N .from m)) (suc (length B)) t
+          (omega arith) in
           omega arith
 
       go : (u : Bool) → N .mail .multi m ≡ u → rank N E n < rank N E m
@@ -122,7 +125,8 @@ module _ {M : Type 0} (N : Network M) (E : List (Step M)) (v : ChannelExecution 
           pick : Dec (Any (Receives m (N .mail .dest m)) E) → rank N E n < rank N E m
           pick (no j) =
               let r = rank-unreceived N E v u x j in
-              let z = enc-place (bound N E) ((chan N B) .taken (N .from m)) (suc (length B)) (limit N E) (suc (length B)) (taken-limit N E v (N .from m) x) (time-low N E v x) in
+              let z = enc-place (bound N E) ((chan N B) .taken (N .from m)) (suc (length B)) (limit N E) (suc (length B))
+              (taken-limit N E v (N .from m) x) (time-low N E v x) in
               omega (arith, low)
           pick (yes j) = later (any-at j .0) (any-at j .1)
             where
@@ -132,7 +136,8 @@ module _ {M : Type 0} (N : Network M) (E : List (Step M)) (v : ChannelExecution 
                   no-both : (e : Step M) → Mcasts m e → Receives m (N .mail .dest m) e → ⊥
                   no-both (mcast a) p q = q
 
-                  order : ((e : Step M) × Mcasts m e × Receives m (N .mail .dest m) e) ⊎ (At (Mcasts m) B F ⊎ At (Receives m (N .mail .dest m)) F B) → rank N E n < rank N E m
+                  order : ((e : Step M) × Mcasts m e × Receives m (N .mail .dest m) e) ⊎ (At (Mcasts m) B F ⊎ At (Receives m (N .mail .dest m)) F B)
+                      → rank N E n < rank N E m
                   order (inl w) = absurd (no-both (w .0) (w .1) (w .2))
                   order (inr (inl w)) =
                       let r = rank-received N E v u f in

@@ -32,7 +32,8 @@ module _ {M : Type 0} (N : Network M) (E : List (Step M)) (v : ChannelExecution 
       omega arith
 
   pub rank-broadcast : {m : M} → N .mail .multi m ≡ true → rank N E m ≡ enc (bound N E) (epoch N E m) 0
-  rank-broadcast {m} u = ap (λ t. cond t (enc (bound N E) (epoch N E m) 0) (rank-single (bound N E) (limit N E) (epoch N E m) (time (mcasts? N m) E) (time (receives? N m) E))) u
+  rank-broadcast {m} u = ap (λ t. cond t (enc (bound N E) (epoch N E m) 0)
+      (rank-single (bound N E) (limit N E) (epoch N E m) (time (mcasts? N m) E) (time (receives? N m) E))) u
 
   pub only-dest : {m : M} {i : ℕ} → N .mail .multi m ≡ false → N .mail .to m i ≡ true → N .mail .dest m ≡ i
   only-dest {m} {i} u t = sym (eqb-true _ _ (sym (N .single m u i) ∙ t))
@@ -45,13 +46,15 @@ module _ {M : Type 0} (N : Network M) (E : List (Step M)) (v : ChannelExecution 
   rank-received {m} {i} {B} u x =
       ap (λ t. cond t (enc (bound N E) (epoch N E m) 0) (rank-single (bound N E) (limit N E) (epoch N E m) (time (mcasts? N m) E) (time (receives? N m) E))) u
       ∙ ap (rank-single (bound N E) (limit N E) (epoch N E m) (time (mcasts? N m) E))
-      (latest-at (receives? N m) (receives-test N m) (receives-tested N m) (λ B. suc (length B)) (λ C y. received-once N E v y) (subst (λ j. At (Receives m j) B E) (sym (received-dest u x)) x))
+      (latest-at (receives? N m) (receives-test N m) (receives-tested N m) (λ B. suc (length B)) (λ C y. received-once N E v y)
+      (subst (λ j. At (Receives m j) B E) (sym (received-dest u x)) x))
 
   pub rank-unreceived : {m : M} {B : List (Step M)} → N .mail .multi m ≡ false → At (Mcasts m) B E → ¬ Any (Receives m (N .mail .dest m)) E
       → rank N E m ≡ enc (bound N E) (limit N E) (suc (length B))
   rank-unreceived {m} u x n =
       ap (λ t. cond t (enc (bound N E) (epoch N E m) 0) (rank-single (bound N E) (limit N E) (epoch N E m) (time (mcasts? N m) E) (time (receives? N m) E))) u
-      ∙ ap (rank-single (bound N E) (limit N E) (epoch N E m) (time (mcasts? N m) E)) (latest-none (receives? N m) (receives-test N m) (receives-tested N m) (λ B. suc (length B)) E n)
+      ∙ ap (rank-single (bound N E) (limit N E) (epoch N E m) (time (mcasts? N m) E))
+      (latest-none (receives? N m) (receives-test N m) (receives-tested N m) (λ B. suc (length B)) E n)
       ∙ ap (enc (bound N E) (limit N E)) (at-mcast N E v (λ B. suc (length B)) x)
 
   -- what is received has an epoch that its card has reached

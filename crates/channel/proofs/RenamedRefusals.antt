@@ -24,7 +24,8 @@ module _ {M N : Type 0} (h : M → N) (a : Mail M) (b : Mail N) (r : Alike h a b
 
   dispatchRefusal-map : (w : ChannelState M) (m : M) → dispatchRefusal b cards (channel-map h w) (h m) ≡ dispatchRefusal a cards w m
   dispatchRefusal-map w m =
-      ap₂ (λ t n. cond t (cond (each cards (λ i. leb (suc n) (w .taken i + 64))) (otherwise 6 (ltb n 65535)) 34) (flightRefusal b cards (Option·map (tag-map h) (w .flight (b .task (h m))))))
+      ap₂ (λ t n. cond t (cond (each cards (λ i. leb (suc n) (w .taken i + 64))) (otherwise 6 (ltb n 65535)) 34)
+      (flightRefusal b cards (Option·map (tag-map h) (w .flight (b .task (h m))))))
       (r .multi= m) (length-map (w .sent) h)
       ∙ ap (cond (a .multi m) (broadcastRefusal a cards w))
       (ap (λ c. flightRefusal b cards (Option·map (tag-map h) (w .flight c))) (r .task= m) ∙ flightRefusal-map (w .flight (a .task m)))
@@ -33,7 +34,8 @@ module _ {M N : Type 0} (h : M → N) (a : Mail M) (b : Mail N) (r : Alike h a b
       → takeRefusal b cards (channel-map h w) i (Option·map h o) ≡ takeRefusal a cards w i o
   takeRefusal-map w i none u = refl
   takeRefusal-map w i (some m) u =
-      ap₂ (λ t n. cond (t && leb 32 n) 35 (otherwise 6 (leb (length (push t (h m) (map h (w .inbox i)) ++ released (suc (w .taken i)) (map (tag-map h) (w .held i)))) 48)))
+      ap₂ (λ t n. cond (t && leb 32 n) 35 (otherwise 6 (leb (length (push t (h m) (map h (w .inbox i)) ++ released (suc (w .taken i))
+      (map (tag-map h) (w .held i)))) 48)))
       (r .to= m (u m refl) i) (length-filter-map h (a .multi) (b .multi) (r .multi=) (w .inbox i))
       ∙ ap (λ n. cond (a .to m i && leb 32 (length (filter (a .multi) (w .inbox i)))) 35 (otherwise 6 (leb n 48)))
       (ap₂ (λ k q. length (k ++ q)) (sym (map-push h (a .to m i) m (w .inbox i))) (released-map h (suc (w .taken i)) (w .held i))
@@ -44,7 +46,8 @@ module _ {M N : Type 0} (h : M → N) (a : Mail M) (b : Mail N) (r : Alike h a b
       → singleRefusal b cards (channel-map h w) (Option·map (tag-map h) o) ≡ singleRefusal a cards w o
   singleRefusal-map w none = refl
   singleRefusal-map w (some x) =
-      ap (λ i. cond (leb (x .mark) (w .taken i)) (otherwise 6 (ltb (length (map h (w .inbox i))) 48)) (otherwise 6 (ltb (length (map (tag-map h) (w .held i))) 16))) (r .dest= (x .msg))
+      ap (λ i. cond (leb (x .mark) (w .taken i)) (otherwise 6 (ltb (length (map h (w .inbox i))) 48))
+      (otherwise 6 (ltb (length (map (tag-map h) (w .held i))) 16))) (r .dest= (x .msg))
       ∙ ap₂ (λ m n. cond (leb (x .mark) (w .taken (a .dest (x .msg)))) (otherwise 6 (ltb m 48)) (otherwise 6 (ltb n 16)))
       (length-map (w .inbox (a .dest (x .msg))) h) (length-map (w .held (a .dest (x .msg))) (tag-map h))
 
@@ -57,6 +60,7 @@ module _ {M N : Type 0} (h : M → N) (a : Mail M) (b : Mail N) (r : Alike h a b
   unfolding channelRefusal
   channelRefusal-map w u (dispatch i m) = dispatchRefusal-map w m
   channelRefusal-map w u (takeBroadcast i) =
-      ap (takeRefusal b cards (channel-map h w) i) (nth-map h (w .sent) (w .taken i)) ∙ takeRefusal-map w i (nth (w .sent) (w .taken i)) (λ m e. u (w .taken i) m e)
+      ap (takeRefusal b cards (channel-map h w) i) (nth-map h (w .sent) (w .taken i))
+      ∙ takeRefusal-map w i (nth (w .sent) (w .taken i)) (λ m e. u (w .taken i) m e)
   channelRefusal-map w u (takeSingle c) = singleRefusal-map w (w .flight c)
   channelRefusal-map w u (deliver i) = receiveRefusal-map (w .inbox i)

@@ -29,7 +29,8 @@ module _ {M N : Type 0} (h : M → N) (a : Mail M) (b : Mail N) (r : Alike h a b
   dispatching-map false w i m = λ z. record {
     sent = map h (w .sent);
     taken = w .taken;
-    flight = λ c. (ap (λ k. cond (eqb c k) (some (record { msg = h m; mark = w .taken i })) (Option·map (tag-map h) (w .flight c))) (r .task= m) ∙ fly c (eqb c (a .task m))) z;
+    flight = λ c. (ap (λ k. cond (eqb c k) (some (record { msg = h m; mark = w .taken i })) (Option·map (tag-map h) (w .flight c))) (r .task= m)
+        ∙ fly c (eqb c (a .task m))) z;
     held = λ j. map (tag-map h) (w .held j);
     inbox = λ j. map h (w .inbox j);
   }
@@ -47,7 +48,8 @@ module _ {M N : Type 0} (h : M → N) (a : Mail M) (b : Mail N) (r : Alike h a b
     taken = λ j. cond (eqb j i) (suc (w .taken j)) (w .taken j);
     flight = λ c. Option·map (tag-map h) (w .flight c);
     held = λ j. keeping (eqb j i) j z;
-    inbox = λ j. (ap (λ s. cond (eqb j i) (push s (h m) (map h (w .inbox j)) ++ released n (map (tag-map h) (w .held j))) (map h (w .inbox j))) (r .to= m (u m refl) i)
+    inbox = λ j. (ap (λ s. cond (eqb j i) (push s (h m) (map h (w .inbox j)) ++ released n (map (tag-map h) (w .held j))) (map h (w .inbox j)))
+        (r .to= m (u m refl) i)
         ∙ joining (eqb j i) (a .to m i) j) z;
   }
     where
@@ -62,7 +64,8 @@ module _ {M N : Type 0} (h : M → N) (a : Mail M) (b : Mail N) (r : Alike h a b
       joining : (t s : Bool) (j : ℕ)
           → cond t (push s (h m) (map h (w .inbox j)) ++ released n (map (tag-map h) (w .held j))) (map h (w .inbox j))
           ≡ map h (cond t (push s m (w .inbox j) ++ released n (w .held j)) (w .inbox j))
-      joining true s j = ap₂ (λ x y. x ++ y) (sym (map-push h s m (w .inbox j))) (released-map h n (w .held j)) ∙ sym (map-append h (push s m (w .inbox j)) (released n (w .held j)))
+      joining true s j = ap₂ (λ x y. x ++ y) (sym (map-push h s m (w .inbox j))) (released-map h n (w .held j))
+          ∙ sym (map-append h (push s m (w .inbox j)) (released n (w .held j)))
       joining false s j = refl
 
   landing-map : (t : Bool) (w : ChannelState M) (c : ℕ) (x : Tagged M)
@@ -79,13 +82,15 @@ module _ {M N : Type 0} (h : M → N) (a : Mail M) (b : Mail N) (r : Alike h a b
         taken = w .taken;
         flight = λ d. left (eqb d c) d z;
         held = λ j. map (tag-map h) (w .held j);
-        inbox = λ j. (ap (λ i. push (eqb j i) (h (x .msg)) (map h (w .inbox j))) (r .dest= (x .msg)) ∙ sym (map-push h (eqb j (a .dest (x .msg))) (x .msg) (w .inbox j))) z;
+        inbox = λ j. (ap (λ i. push (eqb j i) (h (x .msg)) (map h (w .inbox j))) (r .dest= (x .msg))
+            ∙ sym (map-push h (eqb j (a .dest (x .msg))) (x .msg) (w .inbox j))) z;
       }
       go false = λ z. record {
         sent = map h (w .sent);
         taken = w .taken;
         flight = λ d. left (eqb d c) d z;
-        held = λ j. (ap (λ i. push (eqb j i) (tag-map h x) (map (tag-map h) (w .held j))) (r .dest= (x .msg)) ∙ sym (map-push (tag-map h) (eqb j (a .dest (x .msg))) x (w .held j))) z;
+        held = λ j. (ap (λ i. push (eqb j i) (tag-map h x) (map (tag-map h) (w .held j))) (r .dest= (x .msg))
+            ∙ sym (map-push (tag-map h) (eqb j (a .dest (x .msg))) x (w .held j))) z;
         inbox = λ j. map h (w .inbox j);
       }
 

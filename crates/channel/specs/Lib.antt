@@ -1,4 +1,7 @@
+-- What is promised (000 §4), for runs that may be unfinished and in the paper's own wording
 pub mod Promise
+pub mod ContextMulticast
+-- The channel's state and operations (01, steps 6 to 9) and their refusals
 pub mod Mail
 pub mod State
 pub mod Refusals
@@ -12,12 +15,14 @@ pub mod TakeSingle
 pub mod Dispatch
 pub mod Sized
 pub mod Shows
+pub mod Renaming
+-- 000 §6: the automaton, the order T, and the steps that an operation is
 pub mod Network
 pub mod Automaton
 pub mod TotalOrder
 pub mod Trace
-pub mod ContextMulticast
-pub mod Renaming
+-- Any list of calls: what is claimed of it
 pub mod Calls
+pub mod AtRest
 pub mod Examples
 pub mod MemoryCalls
