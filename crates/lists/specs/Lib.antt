@@ -4,8 +4,10 @@ pub mod Loops
 pub mod Parts
 pub mod Listings
 pub mod Histories
+pub mod HistoryMaps
 pub mod Latest
 pub mod Queues
 pub mod Filters
+pub mod Maps
 pub mod Keys
 pub mod Sorting
