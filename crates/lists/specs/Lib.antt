@@ -4,9 +4,11 @@ pub mod Loops
 pub mod Parts
 pub mod Listings
 pub mod Histories
+pub mod HistoryMaps
 pub mod Latest
 pub mod Queues
 pub mod Filters
+pub mod Maps
 pub mod Keys
 pub mod Sorting
 pub mod Counts
