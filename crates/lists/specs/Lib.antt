@@ -13,4 +13,3 @@ pub mod Keys
 pub mod Sorting
 pub mod Counts
 pub mod Conjunctions
-pub mod Maps
