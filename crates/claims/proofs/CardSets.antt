@@ -13,7 +13,7 @@ use Rattle.lists.specs.Tests.{bool, clash, and-fst, and-snd, eqb-not, eqb-of}
 use Rattle.lists.specs.Every.{each, each-at}
 use Rattle.lists.specs.Loops.{turns, total}
 use Rattle.names.specs.CardSet.{memberOf, sizeOf, single, soleOf, justOf}
-use Rattle.names.specs.Placement.{Placement, tasks, registers, home, holders, copy, sized, homePlaced, registerPlaced, placed, placementRefusal}
+use Rattle.names.specs.Placement.{Placement, tasks, registers, home, holders, primary, copy, sizesInRange, sized, homePlaced, homesPlaced, registerPlaced, registersPlaced, placed, placementRefusal}
 
 -- two tests with one value
 abbrev agree : Bool → Bool → Bool
@@ -121,20 +121,20 @@ module _ (P : Placement) (ok : placementRefusal P ≡ 0) where
 
   -- "Cards 1 to 8, registers 1 to 32, tasks 1 to 16"
   pub cards-low : P .cards ≤ 8
-  unfolding sized
+  unfolding sized sizesInRange
   cards-low = leb-true _ _ (second (leb 1 (P .cards)) (leb (P .cards) 8) _ _ _ _ _ (passed .0))
 
   pub some-card : 1 ≤ P .cards
-  unfolding sized
+  unfolding sized sizesInRange
   some-card = leb-true _ _ (first-of (leb 1 (P .cards)) _ _ _ _ _ _ (passed .0))
 
   pub tasks-low : tasks P ≤ 16
-  unfolding sized
+  unfolding sized sizesInRange
   tasks-low = leb-true _ _ (sixth (leb 1 (P .cards)) (leb (P .cards) 8) (leb 1 (registers P)) (leb (registers P) 32) (leb 1 (tasks P)) (leb (tasks P) 16) _ (passed .0))
 
   pub home-there : (c : ℕ) → c < tasks P → home P c < P .cards
-  unfolding placed homePlaced
-  home-there c l = ltb-true _ _ (each-at (tasks P) (homePlaced P) (and-fst (each (tasks P) (homePlaced P)) _ (passed .1)) c l)
+  unfolding placed homesPlaced homePlaced
+  home-there c l = ltb-true _ _ (each-at (tasks P) (λ d. homePlaced (P .cards) (home P d)) (and-fst (homesPlaced (P .cards) (P .homes)) _ (passed .1)) c l)
 
   -- an absent task counts as at home on card 0
   pub home-low : (c : ℕ) → home P c < 8
@@ -144,9 +144,9 @@ module _ (P : Placement) (ok : placementRefusal P ≡ 0) where
       go (yes l) = let a = home-there c l in omega (arith, cards-low)
       go (no l) = let e = List·getD-eq-default (P .homes) 0 {n = c} (omega arith) in omega arith
 
-  register-placed : (x : ℕ) → x < registers P → registerPlaced P x ≡ true
-  unfolding placed
-  register-placed x l = each-at (registers P) (registerPlaced P) (and-snd (each (tasks P) (homePlaced P)) _ (passed .1)) x l
+  register-placed : (x : ℕ) → x < registers P → registerPlaced (P .cards) (holders P x) (primary P x) ≡ true
+  unfolding placed registersPlaced
+  register-placed x l = each-at (registers P) (λ y. registerPlaced (P .cards) (holders P y) (primary P y)) (and-snd (homesPlaced (P .cards) (P .homes)) _ (passed .1)) x l
 
   pub held-somewhere : (x : ℕ) → x < registers P → 1 ≤ holders P x
   unfolding registerPlaced
