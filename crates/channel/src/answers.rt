@@ -3,7 +3,7 @@ ghost use mathlib.Core.Path.{_≡_};
 ghost use Rattle.channel.specs.Answers.{isDone};
 use crate::Answer;
 
-pub fn done(answer: Answer) -> bool
+pub(crate) fn done(answer: Answer) -> bool
     ensures { λ r. ⌜ r ≡ isDone answer ⌝ }
 {
     match answer {

@@ -1,5 +1,6 @@
 // Step 7: a card takes the next broadcast, and what waited for it joins.
 ghost use mathlib.Core.Path.{_≡_};
+ghost use lib.Dec.{leb};
 ghost use Prim.Native.Nat.{_<_, _≤_, _+_};
 ghost use Rattle.channel.specs.TakeBroadcast.{readyAt, releasableOf, broadcastAt, broadcastsOf, sweptWords, sweptKept, releasedWords, joined, roomAnswer, takeAnswer, takeMemory};
 use super::answers::done;
@@ -118,6 +119,17 @@ fn broadcasts(memory: &[u32; 4808], i: usize) -> usize
     count
 }
 
+// Whether card i's inbox has 32 broadcasts. A shorter inbox is not counted through.
+fn crowded(memory: &[u32; 4808], i: usize) -> bool
+    requires { ⌜ i < 8 ⌝ }
+    ensures { λ r. ⌜ r ≡ leb 32 (broadcastsOf (now (memory .entry)) i) ⌝ }
+{
+    if memory[FIRST + i * PART + COUNT] < 32 {
+        return false;
+    }
+    32 <= broadcasts(memory, i)
+}
+
 // Card i takes broadcast n, whose letter is `letter`.
 fn join(memory: &mut [u32; 4808], i: usize, n: u32, letter: Letter, there: bool)
     requires { ⌜ i < 8 ⌝ }
@@ -147,7 +159,7 @@ fn room(memory: &[u32; 4808], i: usize, n: u32, there: bool) -> Answer
 {
     let count = wide(memory[FIRST + i * PART + COUNT]) + releasable(memory, i, n);
     if there {
-        if 32 <= broadcasts(memory, i) {
+        if crowded(memory, i) {
             return Answer::Crowded;
         }
         if 48 < count + 1 {

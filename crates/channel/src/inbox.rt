@@ -17,7 +17,7 @@ use names::BroadcastNumber;
 use names::Card;
 
 // One letter more at the end of a card's inbox; nothing changes where there is no room.
-pub fn push(memory: &mut [u32; 4808], i: usize, letter: Letter)
+pub(crate) fn push(memory: &mut [u32; 4808], i: usize, letter: Letter)
     requires { ⌜ i < 8 ⌝ }
     ensures { λ _. ⌜ now (memory .exit) ≡ pushed (now (memory .entry)) i letter ⌝ }
 {

@@ -7,46 +7,46 @@ use crate::Answer;
 use names::Card;
 
 // Words of the whole memory.
-pub const CARDS: usize = 0;
+pub(crate) const CARDS: usize = 0;
 
-pub const TASKS: usize = 1;
+pub(crate) const TASKS: usize = 1;
 
-pub const REGISTERS: usize = 2;
+pub(crate) const REGISTERS: usize = 2;
 
-pub const MADE: usize = 3;
+pub(crate) const MADE: usize = 3;
 
 // The words of card i start at FIRST + i * PART.
-pub const FIRST: usize = 8;
+pub(crate) const FIRST: usize = 8;
 
-pub const PART: usize = 520;
+pub(crate) const PART: usize = 520;
 
 // Its words of its own.
-pub const HEAD: usize = 1;
+pub(crate) const HEAD: usize = 1;
 
-pub const COUNT: usize = 2;
+pub(crate) const COUNT: usize = 2;
 
-pub const HELD: usize = 3;
+pub(crate) const HELD: usize = 3;
 
 // Blocks of eight words: card i's inbox from INBOX + i * BLOCKS, what is held for it from KEPT + i * BLOCKS.
-pub const BLOCKS: usize = 65;
+pub(crate) const BLOCKS: usize = 65;
 
-pub const INBOX: usize = 2;
+pub(crate) const INBOX: usize = 2;
 
-pub const KEPT: usize = 50;
+pub(crate) const KEPT: usize = 50;
 
 // The block of task t's message in flight is FLIGHT + t.
-pub const FLIGHT: usize = 521;
+pub(crate) const FLIGHT: usize = 521;
 
 // The block of broadcast n is RECENT + n % 64.
-pub const RECENT: usize = 537;
+pub(crate) const RECENT: usize = 537;
 
-pub fn wide(x: u32) -> usize
+pub(crate) fn wide(x: u32) -> usize
     ensures { λ r. ⌜ (r ≡ x) × (r < 4294967296) ⌝ }
 {
     x as usize
 }
 
-pub fn capped(x: u32, most: u32) -> u32
+pub(crate) fn capped(x: u32, most: u32) -> u32
     ensures { λ r. ⌜ r ≡ min x most ⌝ }
 {
     if x < most {
@@ -94,7 +94,7 @@ pub fn taken(memory: &[u32; 4808], card: Card) -> u32
 }
 
 // Whether the sizes are in range.
-pub fn sizes_fit(cards: u32, tasks: u32, registers: u32) -> bool
+pub(crate) fn sizes_fit(cards: u32, tasks: u32, registers: u32) -> bool
     ensures { λ r. ⌜ r ≡ sizesFit cards tasks registers ⌝ }
 {
     if cards < 1 {

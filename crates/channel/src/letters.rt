@@ -14,7 +14,7 @@ use names::Register;
 use names::Task;
 
 // The letter in a block.
-pub fn load(memory: &[u32; 4808], block: usize) -> Letter
+pub(crate) fn load(memory: &[u32; 4808], block: usize) -> Letter
     requires { ⌜ block < 601 ⌝ }
     ensures { λ r. ⌜ r ≡ letterAt (now (memory .entry)) block ⌝ }
 {
@@ -88,7 +88,7 @@ fn value_of(body: Body) -> u32
 }
 
 // A letter and a tag into a block.
-pub fn store(memory: &mut [u32; 4808], block: usize, letter: Letter, tag: BroadcastNumber)
+pub(crate) fn store(memory: &mut [u32; 4808], block: usize, letter: Letter, tag: BroadcastNumber)
     requires { ⌜ block < 601 ⌝ }
     ensures { λ _. ⌜ now (memory .exit) ≡ stored (now (memory .entry)) block letter (tag .0) ⌝ }
 {
@@ -106,21 +106,21 @@ pub fn store(memory: &mut [u32; 4808], block: usize, letter: Letter, tag: Broadc
 }
 
 // Whether there are more destinations than one.
-pub fn several(to: u32) -> bool
+pub(crate) fn several(to: u32) -> bool
     ensures { λ r. ⌜ r ≡ several to ⌝ }
 {
     1 < names::size(to)
 }
 
 // Whether there is one destination.
-pub fn single(to: u32) -> bool
+pub(crate) fn single(to: u32) -> bool
     ensures { λ r. ⌜ r ≡ single to ⌝ }
 {
     names::size(to) == 1
 }
 
 // The destination where there is one.
-pub fn sole(to: u32) -> u32
+pub(crate) fn sole(to: u32) -> u32
     ensures { λ r. ⌜ r ≡ soleOf to ⌝ }
 {
     to / 2 % 2
@@ -160,7 +160,7 @@ fn addressed(memory: &[u32; 4808], to: u32) -> bool
 }
 
 // Whether no field of a letter is past its limit.
-pub fn fits(memory: &[u32; 4808], letter: Letter) -> bool
+pub(crate) fn fits(memory: &[u32; 4808], letter: Letter) -> bool
     ensures { λ r. ⌜ r ≡ fits (now (memory .entry)) letter ⌝ }
 {
     let message = letter.message;

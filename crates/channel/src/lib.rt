@@ -10,6 +10,7 @@ mod layout;
 mod letters;
 mod send;
 mod single;
+mod sized;
 
 pub use broadcast::take_broadcast;
 pub use inbox::receive;
@@ -21,6 +22,7 @@ pub use layout::taken;
 pub use layout::tasks;
 pub use send::dispatch;
 pub use single::take_single;
+pub use sized::well_sized;
 
 // A message with its sender and its destinations, a set of cards.
 pub struct Letter {

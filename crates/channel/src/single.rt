@@ -22,7 +22,7 @@ use names::BroadcastNumber;
 use names::Task;
 
 // Whether task t has nothing in flight.
-pub fn no_flight(memory: &[u32; 4808], t: usize) -> bool
+pub(crate) fn no_flight(memory: &[u32; 4808], t: usize) -> bool
     requires { ⌜ t < 16 ⌝ }
     ensures { λ r. ⌜ r ≡ noFlight (now (memory .entry)) t ⌝ }
 {

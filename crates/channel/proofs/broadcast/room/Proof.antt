@@ -1,7 +1,7 @@
 use Rattle.channel.specs.TakeBroadcast.{roomAnswer}
-use borrow.Author.Tests.{lt-ltb, le-ltb, le-leb, lt-leb}
+use borrow.Author.Tests.{lt-ltb, le-ltb}
+use mathlib.Core.Path.{_≡_, sym, _∙_}
 use borrow.Author.Needs.{needs}
-use Rattle.lists.specs.Tests.{cases}
 use Rattle.channel.proofs.broadcast.room.Statement.{statement}
 use Rattle.channel.proofs.broadcast.room.Tie as tie
 
@@ -29,23 +29,23 @@ releasable-requires c κs = search needs
 add-count : tie.Need-add-count
 add-count c = search needs
 
-broadcasts-requires : tie.Need-broadcasts-requires
-broadcasts-requires c κs = search needs
+crowded-requires : tie.Need-crowded-requires
+crowded-requires c κs = search needs
 
 returns : tie.Need-returns
 unfolding roomAnswer
-returns c = simp (c .before .before .if1 .taken, ← (c .before .broadcasts .ensures .0), le-leb _ _ (c .if2 .taken))
+returns c = simp (c .before .before .if1 .taken, sym (c .before .crowded .ensures) ∙ c .if2 .taken)
 
 add-if3 : tie.Need-add-if3
 add-if3 c = search needs
 
 returns-2 : tie.Need-returns-2
 unfolding roomAnswer
-returns-2 c = simp (c .before .before .before .if1 .taken, ← (c .before .before .broadcasts .ensures .0), lt-leb _ _ (c .before .if2 .left), ← (c .before .before .before .before .before .wide .ensures .0), ← (c .before .before .before .before .releasable .ensures .0), lt-ltb _ _ (c .if3 .taken))
+returns-2 c = simp (c .before .before .before .if1 .taken, sym (c .before .before .crowded .ensures) ∙ c .before .if2 .left, ← (c .before .before .before .before .before .wide .ensures .0), ← (c .before .before .before .before .releasable .ensures .0), lt-ltb _ _ (c .if3 .taken))
 
 returns-3 : tie.Need-returns-3
 unfolding roomAnswer
-returns-3 c = simp (c .before .before .before .if1 .taken, ← (c .before .before .broadcasts .ensures .0), lt-leb _ _ (c .before .if2 .left), ← (c .before .before .before .before .before .wide .ensures .0), ← (c .before .before .before .before .releasable .ensures .0), le-ltb _ _ (c .if3 .left))
+returns-3 c = simp (c .before .before .before .if1 .taken, sym (c .before .before .crowded .ensures) ∙ c .before .if2 .left, ← (c .before .before .before .before .before .wide .ensures .0), ← (c .before .before .before .before .releasable .ensures .0), le-ltb _ _ (c .if3 .left))
 
 returns-4 : tie.Need-returns-4
 unfolding roomAnswer
@@ -56,4 +56,4 @@ unfolding roomAnswer
 returns-5 c = simp (c .before .if1 .left, ← (c .before .before .before .wide .ensures .0), ← (c .before .before .releasable .ensures .0), le-ltb _ _ (c .if4 .left))
 
 pub room-spec : {M : Type 1} → statement M
-room-spec = tie.close (tie.spec mul-wide add-wide add-wide-2 mul-wide-2 element-copy-out-wide wide-requires releasable-requires add-count broadcasts-requires returns add-if3 returns-2 returns-3 returns-4 returns-5)
+room-spec = tie.close (tie.spec mul-wide add-wide add-wide-2 mul-wide-2 element-copy-out-wide wide-requires releasable-requires add-count crowded-requires returns add-if3 returns-2 returns-3 returns-4 returns-5)

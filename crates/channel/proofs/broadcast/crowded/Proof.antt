@@ -1,0 +1,49 @@
+use mathlib.Core.Path.{sym}
+use Rattle.channel.specs.Letters.{letterAt, several}
+use Rattle.channel.specs.TakeBroadcast.{broadcastAt, broadcastsOf}
+use Rattle.channel.specs.Layout.{countOf, placeOf}
+use Rattle.lists.specs.Loops.{total-most}
+use borrow.Author.Tests.{lt-leb}
+use native.Mathlib.Omega.{arith}
+use mathlib.Core.List.{List}
+use mathlib.Core.Bool.{Bool, true, false, cond}
+use Prim.Native.Nat.{ℕ, _≤_, _<_, min}
+use borrow.Author.Needs.{needs}
+use Rattle.channel.proofs.broadcast.crowded.Statement.{statement}
+use Rattle.channel.proofs.broadcast.crowded.Tie as tie
+
+bit : (b : Bool) → cond b 1 0 ≤ 1
+bit true = omega arith
+bit false = omega arith
+
+-- an inbox of less than 32 messages
+short : (ws : List ℕ) (i : ℕ) → countOf ws i < 32 → broadcastsOf ws i < 32
+unfolding broadcastsOf broadcastAt
+short ws i h = let m = total-most (broadcastAt ws i) (min (countOf ws i) 48) (λ k g. bit (several (letterAt ws (placeOf ws i k) .to))) in omega arith
+
+mul-if1 : tie.Need-mul-if1
+mul-if1 c = search needs
+
+add-if1 : tie.Need-add-if1
+add-if1 c = search needs
+
+add-if1-2 : tie.Need-add-if1-2
+add-if1-2 c = search needs
+
+mul-if1-2 : tie.Need-mul-if1-2
+mul-if1-2 c = search needs
+
+element-copy-out-if1 : tie.Need-element-copy-out-if1
+element-copy-out-if1 c = search needs
+
+returns : tie.Need-returns
+returns c = sym (lt-leb 32 _ (short _ _ (c .if1 .taken)))
+
+broadcasts-requires : tie.Need-broadcasts-requires
+broadcasts-requires c κs = search needs
+
+returns-2 : tie.Need-returns-2
+returns-2 c = rw (← (c .broadcasts .ensures .0))
+
+pub crowded-spec : {M : Type 1} → statement M
+crowded-spec = tie.close (tie.spec mul-if1 add-if1 add-if1-2 mul-if1-2 element-copy-out-if1 returns broadcasts-requires returns-2)

@@ -1,0 +1,58 @@
+use Rattle.channel.specs.Sized.{inboxFits}
+use Rattle.lists.specs.Every.{each, each-zero, each-more, each-fails}
+use borrow.Author.Tests.{not-true, not-false}
+use native.Mathlib.Omega.{arith}
+use mathlib.Core.Bool.{true}
+use mathlib.Core.Path.{_≡_, sym, _∙_}
+use Prim.Native.Nat.{_-_, _≤_}
+use borrow.Author.Needs.{needs}
+use Rattle.channel.proofs.sized.inbox_all.Statement.{statement}
+use Rattle.channel.proofs.sized.inbox_all.Tie as tie
+
+abbrev Inv-loop : tie.InvT-loop
+Inv-loop memory i n k₀ k = (k ≤ n) × (each k (inboxFits memory i) ≡ true)
+
+abbrev μ-loop : tie.MeasureT-loop
+μ-loop memory i n k₀ k = n - k
+
+mul-capped : tie.Need-mul-capped Inv-loop μ-loop
+mul-capped c = search needs
+
+add-capped : tie.Need-add-capped Inv-loop μ-loop
+add-capped c = search needs
+
+add-capped-2 : tie.Need-add-capped-2 Inv-loop μ-loop
+add-capped-2 c = search needs
+
+mul-capped-2 : tie.Need-mul-capped-2 Inv-loop μ-loop
+mul-capped-2 c = search needs
+
+element-copy-out-capped : tie.Need-element-copy-out-capped Inv-loop μ-loop
+element-copy-out-capped c = search needs
+
+capped-requires : tie.Need-capped-requires Inv-loop μ-loop
+capped-requires c κs = search needs
+
+loop-holds : tie.Need-loop-holds Inv-loop μ-loop
+loop-holds c = (omega arith, each-zero _)
+
+inbox-fits-requires : tie.Need-inbox-fits-requires Inv-loop μ-loop
+inbox-fits-requires c κs = search needs
+
+returns : tie.Need-returns Inv-loop μ-loop
+returns c = rw (← (c .before .before .before .before .capped .ensures)) (sym (each-fails _ _ (c .before .before .before .loop .k) (omega arith) (sym (c .before .inbox-fits .ensures) ∙ not-true _ (c .if1 .taken))))
+
+add-k : tie.Need-add-k Inv-loop μ-loop
+add-k c = search needs
+
+loop-less : tie.Need-loop-less Inv-loop μ-loop
+loop-less c = search needs
+
+loop-again : tie.Need-loop-again Inv-loop μ-loop
+loop-again c = (omega arith, each-more _ _ (c .before .before .before .loop .inv .1) (sym (c .before .inbox-fits .ensures) ∙ not-false _ (c .if1 .left)))
+
+returns-2 : tie.Need-returns-2 Inv-loop μ-loop
+returns-2 c = let e : c .before .loop .k ≡ c .before .before .capped .result = omega arith in rw (← (c .before .before .capped .ensures), ← e) (sym (c .before .loop .inv .1))
+
+pub inbox-all-spec : {M : Type 1} → statement M
+inbox-all-spec = tie.close (tie.spec Inv-loop μ-loop mul-capped add-capped add-capped-2 mul-capped-2 element-copy-out-capped capped-requires loop-holds inbox-fits-requires returns add-k loop-less loop-again returns-2)

@@ -1,0 +1,247 @@
+// The check of the whole memory that refusal 6 for the state asks for.
+ghost use mathlib.Core.Path.{_≡_};
+ghost use Prim.Native.Nat.{_<_, _≤_, min};
+ghost use Rattle.lists.specs.Every.{each};
+ghost use Rattle.channel.specs.Layout.{cardsOf, tasksOf, madeOf, countOf, heldCountOf};
+ghost use Rattle.channel.specs.Sized.{blockFits, inboxFits, heldFits, flightFits, broadcastFits, countsFit, cardFits, recentFits, headFits, wellSized};
+use super::layout::BLOCKS;
+use super::layout::CARDS;
+use super::layout::COUNT;
+use super::layout::FIRST;
+use super::layout::FLIGHT;
+use super::layout::HEAD;
+use super::layout::HELD;
+use super::layout::INBOX;
+use super::layout::KEPT;
+use super::layout::MADE;
+use super::layout::PART;
+use super::layout::RECENT;
+use super::layout::REGISTERS;
+use super::layout::TASKS;
+use super::layout::capped;
+use super::layout::cards;
+use super::layout::sizes_fit;
+use super::layout::tasks;
+use super::layout::wide;
+use super::letters::fits;
+use super::letters::load;
+use super::letters::several;
+use super::letters::single;
+use super::single::no_flight;
+use names::Card;
+
+// Whether a block has a message with no field past its limit.
+fn block_fits(memory: &[u32; 4808], block: usize) -> bool
+    requires { ⌜ block < 601 ⌝ }
+    ensures { λ r. ⌜ r ≡ blockFits (now (memory .entry)) block ⌝ }
+{
+    let kind = memory[block * 8];
+    if kind < 1 {
+        return false;
+    }
+    if 4 < kind {
+        return false;
+    }
+    let letter = load(memory, block);
+    fits(memory, letter)
+}
+
+// Whether place k of card i's inbox is in order.
+fn inbox_fits(memory: &[u32; 4808], i: usize, k: u32) -> bool
+    requires { ⌜ (i < 8) × (k < 48) ⌝ }
+    ensures { λ r. ⌜ r ≡ inboxFits (now (memory .entry)) i k ⌝ }
+{
+    let head = memory[FIRST + i * PART + HEAD];
+    let block = INBOX + i * BLOCKS + ((head % 48 + k) % 48) as usize;
+    if !block_fits(memory, block) {
+        return false;
+    }
+    let to = memory[block * 8 + 6];
+    names::member(to, Card(i as u32))
+}
+
+// Whether place k of what is held for card i is in order.
+fn held_fits(memory: &[u32; 4808], i: usize, k: usize) -> bool
+    requires { ⌜ (i < 8) × (k < 16) ⌝ }
+    ensures { λ r. ⌜ r ≡ heldFits (now (memory .entry)) i k ⌝ }
+{
+    let block = KEPT + i * BLOCKS + k;
+    if !block_fits(memory, block) {
+        return false;
+    }
+    let to = memory[block * 8 + 6];
+    if !single(to) {
+        return false;
+    }
+    names::member(to, Card(i as u32))
+}
+
+// Whether task t's flight slot is in order.
+fn flight_fits(memory: &[u32; 4808], t: usize) -> bool
+    requires { ⌜ t < 16 ⌝ }
+    ensures { λ r. ⌜ r ≡ flightFits (now (memory .entry)) t ⌝ }
+{
+    if no_flight(memory, t) {
+        return true;
+    }
+    let block = FLIGHT + t;
+    if !block_fits(memory, block) {
+        return false;
+    }
+    if wide(memory[block * 8 + 1]) != t {
+        return false;
+    }
+    single(memory[block * 8 + 6])
+}
+
+// Whether broadcast n is in order.
+fn broadcast_fits(memory: &[u32; 4808], n: u32) -> bool
+    ensures { λ r. ⌜ r ≡ broadcastFits (now (memory .entry)) n ⌝ }
+{
+    let block = RECENT + (n % 64) as usize;
+    if !block_fits(memory, block) {
+        return false;
+    }
+    several(memory[block * 8 + 6])
+}
+
+// Whether card i's counts are in order.
+fn counts_fit(memory: &[u32; 4808], i: usize) -> bool
+    requires { ⌜ i < 8 ⌝ }
+    ensures { λ r. ⌜ r ≡ countsFit (now (memory .entry)) i ⌝ }
+{
+    let at = FIRST + i * PART;
+    let taken = wide(memory[at]);
+    let made = wide(memory[MADE]);
+    if made < taken {
+        return false;
+    }
+    if taken + 64 < made {
+        return false;
+    }
+    if 48 <= memory[at + HEAD] {
+        return false;
+    }
+    if 48 < memory[at + COUNT] {
+        return false;
+    }
+    memory[at + HELD] <= 16
+}
+
+// Whether card i's inbox is in order.
+fn inbox_all(memory: &[u32; 4808], i: usize) -> bool
+    requires { ⌜ i < 8 ⌝ }
+    ensures { λ r. ⌜ r ≡ each (min (countOf (now (memory .entry)) i) 48) (inboxFits (now (memory .entry)) i) ⌝ }
+{
+    let n = capped(memory[FIRST + i * PART + COUNT], 48);
+    let mut k: u32 = 0;
+    while k < n {
+        if !inbox_fits(memory, i, k) {
+            return false;
+        }
+        k += 1;
+    }
+    true
+}
+
+// Whether what is held for card i is in order.
+fn held_all(memory: &[u32; 4808], i: usize) -> bool
+    requires { ⌜ i < 8 ⌝ }
+    ensures { λ r. ⌜ r ≡ each (min (heldCountOf (now (memory .entry)) i) 16) (heldFits (now (memory .entry)) i) ⌝ }
+{
+    let n = capped(memory[FIRST + i * PART + HELD], 16) as usize;
+    let mut k: usize = 0;
+    while k < n {
+        if !held_fits(memory, i, k) {
+            return false;
+        }
+        k += 1;
+    }
+    true
+}
+
+// Whether card i's part is in order.
+fn card_fits(memory: &[u32; 4808], i: usize) -> bool
+    requires { ⌜ i < 8 ⌝ }
+    ensures { λ r. ⌜ r ≡ cardFits (now (memory .entry)) i ⌝ }
+{
+    if !counts_fit(memory, i) {
+        return false;
+    }
+    if !inbox_all(memory, i) {
+        return false;
+    }
+    held_all(memory, i)
+}
+
+// Whether every card's part is in order.
+fn card_all(memory: &[u32; 4808]) -> bool
+    ensures { λ r. ⌜ r ≡ each (cardsOf (now (memory .entry))) (cardFits (now (memory .entry))) ⌝ }
+{
+    let n = cards(memory) as usize;
+    let mut i: usize = 0;
+    while i < n {
+        if !card_fits(memory, i) {
+            return false;
+        }
+        i += 1;
+    }
+    true
+}
+
+// Whether every task's flight slot is in order.
+fn flight_all(memory: &[u32; 4808]) -> bool
+    ensures { λ r. ⌜ r ≡ each (tasksOf (now (memory .entry))) (flightFits (now (memory .entry))) ⌝ }
+{
+    let n = tasks(memory) as usize;
+    let mut t: usize = 0;
+    while t < n {
+        if !flight_fits(memory, t) {
+            return false;
+        }
+        t += 1;
+    }
+    true
+}
+
+// Whether the last 64 broadcasts are in order.
+fn recent_all(memory: &[u32; 4808]) -> bool
+    ensures { λ r. ⌜ r ≡ each (min (madeOf (now (memory .entry))) 64) (recentFits (now (memory .entry))) ⌝ }
+{
+    let made = memory[MADE];
+    let n = capped(made, 64);
+    let mut k: u32 = 0;
+    while k < n {
+        if !broadcast_fits(memory, made - k) {
+            return false;
+        }
+        k += 1;
+    }
+    true
+}
+
+// Whether the sizes and the number of broadcasts made are in range.
+fn head_fits(memory: &[u32; 4808]) -> bool
+    ensures { λ r. ⌜ r ≡ headFits (now (memory .entry)) ⌝ }
+{
+    if !sizes_fit(memory[CARDS], memory[TASKS], memory[REGISTERS]) {
+        return false;
+    }
+    memory[MADE] <= 65535
+}
+
+// Whether the memory is well sized; else a step is refused with 6.
+pub fn well_sized(memory: &[u32; 4808]) -> bool
+    ensures { λ r. ⌜ r ≡ wellSized (now (memory .entry)) ⌝ }
+{
+    if !head_fits(memory) {
+        return false;
+    }
+    if !card_all(memory) {
+        return false;
+    }
+    if !flight_all(memory) {
+        return false;
+    }
+    recent_all(memory)
+}
