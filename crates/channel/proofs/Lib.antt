@@ -4,9 +4,10 @@ pub mod InboxHistory
 pub mod Joining
 pub mod Times
 pub mod InboxOrder
-pub mod Sent
+pub mod Integrity
 pub mod Rank
-pub mod PromiseParts
+pub mod ReceiveConsistency
+pub mod ContextSafety
 pub mod Distinct
 pub mod KeepsPromise
 -- The order T, the paper's wording, and what the promise refuses

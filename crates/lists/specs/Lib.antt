@@ -7,6 +7,6 @@ pub mod Histories
 pub mod Latest
 pub mod Queues
 pub mod Filters
+pub mod Maps
 pub mod Keys
 pub mod Sorting
-pub mod Maps
