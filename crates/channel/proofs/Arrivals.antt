@@ -97,7 +97,8 @@ module _ {M : Type 0} (N : Network M) where
   pub arrival : (w : ChannelState M) (E : List (Step M)) → Agrees N w E → (c : ℕ) (x : Tagged M) → w .flight c ≡ some x
       → Arrived (x .msg) (x .mark) (w .taken (N .mail .dest (x .msg))) (channelStep (N .mail) w (takeSingle c)) (steps (N .mail) w (takeSingle c) E)
   arrival w E g c x e =
-      subst (λ o. Arrived (x .msg) (x .mark) (w .taken i) (arriving (N .mail) w c o) (steps-single (N .mail) w o E)) (sym e) (go (leb (x .mark) (w .taken i)) refl)
+      subst (λ o. Arrived (x .msg) (x .mark) (w .taken i) (arriving (N .mail) w c o) (steps-single (N .mail) w o E)) (sym e)
+      (go (leb (x .mark) (w .taken i)) refl)
     where
       i : ℕ
       i = N .mail .dest (x .msg)
@@ -119,6 +120,7 @@ module _ {M : Type 0} (N : Network M) where
   arrived-epoch m t a w E g v (entered D y e) j = epoch-joined N E v y ∙ e
 
   -- the tag is the number of broadcasts that the sender had taken when it multicast the message
-  pub flight-tag : (w : ChannelState M) (E : List (Step M)) → Agrees N w E → ChannelExecution N E → (c : ℕ) (x : Tagged M) {B : List (Step M)} → w .flight c ≡ some x
+  pub flight-tag : (w : ChannelState M) (E : List (Step M)) → Agrees N w E → ChannelExecution N E
+      → (c : ℕ) (x : Tagged M) {B : List (Step M)} → w .flight c ≡ some x
       → At (Mcasts (x .msg)) B E → x .mark ≡ (chan N B) .taken (N .from (x .msg))
   flight-tag w E g v c x e y = let l = g .flies c x e .0 in sym (l .tag-is) ∙ tag N v (l .alone) y

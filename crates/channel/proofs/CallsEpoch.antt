@@ -13,13 +13,13 @@ use Rattle.channel.specs.Network.{Network}
 use Rattle.channel.specs.Automaton.{Step, Mcasts, Joins, Chan, chan}
 use Rattle.channel.specs.TotalOrder.{epoch}
 use Rattle.channel.specs.Trace.{steps}
-use Rattle.channel.specs.Calls.{Setup, numbering, done, calls, posted, numbers, numbered, trace}
+use Rattle.channel.specs.Calls.{Setup, numbering, done, calls, posted, network, numbered, trace}
 use Rattle.channel.proofs.Arrivals.{Arrived, arrived-step, arrival, arrived-epoch, flight-tag}
 use Rattle.channel.proofs.CallsKeepPromise.{upto}
 
 module _ {M : Type 0} (C : Setup M) (xs : List (ChannelAction M)) where
   abbrev N : Network ℕ
-  N = numbers C (posted C xs)
+  N = network C xs
 
   abbrev state : List (ChannelAction M) → ChannelState ℕ
   state = numbered C (posted C xs)
@@ -36,20 +36,24 @@ module _ {M : Type 0} (C : Setup M) (xs : List (ChannelAction M)) where
       go true = arrived-step N m t a (state ys) (run ys) (upto C xs ys s .agrees) (numbering (length (posted C ys)) x) r
       go false = r
 
-  lasting : (m t a : ℕ) {ys zs : List (ChannelAction M)} → Suf ys zs → Suf zs xs → Arrived N m t a (state ys) (run ys) → Arrived N m t a (state zs) (run zs)
+  lasting : (m t a : ℕ) {ys zs : List (ChannelAction M)} → Suf ys zs → Suf zs xs → Arrived N m t a (state ys) (run ys)
+      → Arrived N m t a (state zs) (run zs)
   lasting m t a stop s r = r
   lasting m t a (back {e = x} {E = zs} p) s r = onward m t a x zs (suf-tail s) (lasting m t a p (suf-tail s) r)
 
   -- step 8 at some moment, of a message that has joined by the end
-  pub epoch-arrival : (ys : List (ChannelAction M)) (c : ℕ) (x : Tagged ℕ) → Suf (takeSingle c ∷ ys) xs → done C (calls C ys) (takeSingle c) ≡ true
+  pub epoch-arrival : (ys : List (ChannelAction M)) (c : ℕ) (x : Tagged ℕ) → Suf (takeSingle c ∷ ys) xs
+      → done C (calls C ys) (takeSingle c) ≡ true
       → (state ys) .flight c ≡ some x → Any (Joins (x .msg)) (run xs)
       → epoch N (run xs) (x .msg) ≡ max (x .mark) ((state ys) .taken (N .mail .dest (x .msg)))
   epoch-arrival ys c x s d e j =
-      arrived-epoch N (x .msg) (x .mark) ((state ys) .taken (N .mail .dest (x .msg))) (state xs) (run xs) (upto C xs xs stop .agrees) (upto C xs xs stop .execution)
+      arrived-epoch N (x .msg) (x .mark) ((state ys) .taken (N .mail .dest (x .msg))) (state xs) (run xs) (upto C xs xs stop .agrees)
+      (upto C xs xs stop .execution)
       (lasting (x .msg) (x .mark) ((state ys) .taken (N .mail .dest (x .msg))) s stop first) j
     where
       first : Arrived N (x .msg) (x .mark) ((state ys) .taken (N .mail .dest (x .msg))) (state (takeSingle c ∷ ys)) (run (takeSingle c ∷ ys))
-      first = subst (λ b. Arrived N (x .msg) (x .mark) ((state ys) .taken (N .mail .dest (x .msg))) (cond b (channelStep (N .mail) (state ys) (takeSingle c)) (state ys))
+      first = subst (λ b. Arrived N (x .msg) (x .mark) ((state ys) .taken (N .mail .dest (x .msg)))
+          (cond b (channelStep (N .mail) (state ys) (takeSingle c)) (state ys))
           (cond b (steps (N .mail) (state ys) (takeSingle c) (run ys)) (run ys))) (sym d)
           (arrival N (state ys) (run ys) (upto C xs ys (suf-tail s) .agrees) c x e)
 

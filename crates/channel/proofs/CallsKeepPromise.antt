@@ -14,8 +14,8 @@ use Rattle.channel.specs.State.{Tagged, ChannelState, nth, released, Cha
 use Rattle.channel.specs.Network.{Network}
 use Rattle.channel.specs.Automaton.{Step, mcast, take, join, Mcasts, ChannelExecution}
 use Rattle.channel.specs.Trace.{steps-take, steps-single, steps-deliver, steps}
-use Rattle.channel.specs.Renaming.{channel-map, action-map, Alike}
-use Rattle.channel.specs.Calls.{Posted, Setup, posting, numbering, done, calls, posted, letter, numbers, numbered, trace, CallsPromise}
+use Rattle.channel.specs.Renaming.{channel-map, action-map, Alike, SentAlike}
+use Rattle.channel.specs.Calls.{Posted, Setup, posting, numbering, done, calls, posted, letter, network, numbered, trace, CallsPromise}
 use Rattle.channel.proofs.Counts.{flow, mcast-once}
 use Rattle.channel.proofs.Held.{holds-in}
 use Rattle.channel.proofs.JoinLists.{mcast-joins}
@@ -65,7 +65,7 @@ module _ {M : Type 0} (C : Setup M) (xs : List (ChannelAction M)) where
   P = posted C xs
 
   abbrev N : Network ℕ
-  N = numbers C P
+  N = network C xs
 
   abbrev h : ℕ → M
   h = letter C P
@@ -82,8 +82,12 @@ module _ {M : Type 0} (C : Setup M) (xs : List (ChannelAction M)) where
   abbrev run : List (ChannelAction M) → List (Step ℕ)
   run = trace C P
 
-  alike : Alike h (N .mail) (C .mail)
-  alike = record { task= = λ k. refl; multi= = λ k. refl; to= = λ k u i. rw u; dest= = λ k. refl }
+  pub alike : Alike h (N .mail) (C .mail)
+  alike = record { task= = λ k. refl; multi= = λ k. refl; dest= = λ k. refl }
+
+  -- what has been broadcast goes to the destinations that it names
+  pub sent-alike : (w : ChannelState ℕ) (E : List (Step ℕ)) → Agrees N w E → SentAlike h (N .mail) (C .mail) w
+  sent-alike w E a n k e i = rw (a .sent= n k e .0)
 
   -- numbers in place of messages: where the run stands
   pub record Upto (p : ChannelState M) (l : List (Posted M)) (w : ChannelState ℕ) (E : List (Step ℕ)) : Type 0 where
@@ -93,7 +97,7 @@ module _ {M : Type 0} (C : Setup M) (xs : List (ChannelAction M)) where
     pub shown : p ≡ channel-map h w
 
   module _ (x : ChannelAction M) (ys : List (ChannelAction M)) (s : Suf (x ∷ ys) xs) (d : done C (plain ys) x ≡ true) where
-    renamed : action-map h (numbering (length (given ys)) x) ≡ x
+    pub renamed : action-map h (numbering (length (given ys)) x) ≡ x
     renamed = go x s d
       where
         go : (x : ChannelAction M) → Suf (x ∷ ys) xs → done C (plain ys) x ≡ true
@@ -119,7 +123,8 @@ module _ {M : Type 0} (C : Setup M) (xs : List (ChannelAction M)) where
     where
       go : (t : Bool) → done C (plain ys) x ≡ t
           → Upto (cond t (channelStep (C .mail) (plain ys) x) (plain ys)) (cond t (posting x (given ys)) (given ys))
-          (cond t (channelStep (N .mail) (state ys) (numbering (length (given ys)) x)) (state ys)) (cond t (steps (N .mail) (state ys) (numbering (length (given ys)) x) (run ys)) (run ys))
+          (cond t (channelStep (N .mail) (state ys) (numbering (length (given ys)) x)) (state ys))
+          (cond t (steps (N .mail) (state ys) (numbering (length (given ys)) x) (run ys)) (run ys))
       go false d = u
       go true d =
           let k = channelStep-keeps N (state ys) (run ys) (u .agrees) (u .execution) (numbering (length (given ys)) x) (fresh x ys s d (u .low)) in
@@ -128,7 +133,7 @@ module _ {M : Type 0} (C : Setup M) (xs : List (ChannelAction M)) where
             execution = k .1;
             low = steps-low N (state ys) (run ys) (given ys) (u .low) x;
             shown = ap (λ p. channelStep (C .mail) p x) (u .shown) ∙ ap (channelStep (C .mail) (channel-map h (state ys))) (sym (renamed x ys s d))
-                ∙ channelStep-map h (N .mail) (C .mail) alike (state ys) (λ n m e. u .agrees .sent= n m e .0) (numbering (length (given ys)) x);
+                ∙ channelStep-map h (N .mail) (C .mail) alike (state ys) (sent-alike (state ys) (run ys) (u .agrees)) (numbering (length (given ys)) x);
           }
 
   pub upto : (ys : List (ChannelAction M)) → Suf ys xs → Upto (plain ys) (given ys) (state ys) (run ys)

@@ -94,7 +94,8 @@ module _ {M : Type 0} (N : Network M) where
   -- a broadcast's number is one of those made
   pub made-now : (e : Step M) (E : List (Step M)) (m : M) → N .mail .multi m ≡ true → Mcasts m e
       → suc ((chan N E) .made) ≤ (chan N (e ∷ E)) .made
-  made-now (mcast n) E m u p = subst (λ t. suc ((chan N E) .made) ≤ cond t (suc ((chan N E) .made)) ((chan N E) .made)) (sym (ap (N .mail .multi) p ∙ u)) (omega arith)
+  made-now (mcast n) E m u p = subst (λ t. suc ((chan N E) .made) ≤ cond t (suc ((chan N E) .made)) ((chan N E) .made))
+      (sym (ap (N .mail .multi) p ∙ u)) (omega arith)
 
   pub made-at : {B E : List (Step M)} {m : M} → N .mail .multi m ≡ true → At (Mcasts m) B E → suc ((chan N B) .made) ≤ (chan N E) .made
   made-at {m = m} u (now {e = e} {E = E} p) = made-now e E m u p

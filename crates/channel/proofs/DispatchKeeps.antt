@@ -52,7 +52,13 @@ module _ {M : Type 0} (N : Network M) where
       entry = record { msg = m; mark = w .taken i }
 
       entry-in-transit : N .mail .multi m ≡ false → InTransit N (mcast m ∷ E) m (w .taken i)
-      entry-in-transit u = record { alone = u; mcast-it = here refl; unjoined = f; tag-is = mark-now N (mcast m) E m refl ∙ (rw (u, from-i) (sym (a .taken= i))) }
+      entry-in-transit u = record {
+        alone = u;
+        mcast-it = here refl;
+        unjoined = f;
+        tag-is = mark-now N (mcast m) E m refl
+            ∙ (rw (u, from-i) (sym (a .taken= i)));
+      }
         where
           f : ¬ Any (Joins m) (mcast m ∷ E)
           f (there h) = fresh (joined-mcast N v h)
@@ -72,7 +78,12 @@ module _ {M : Type 0} (N : Network M) where
           old : (n : ℕ) (x : M) → (nth (w .sent) n ≡ some x) ⊎ ((n ≡ length (w .sent)) × (m ≡ x))
               → (N .mail .multi x ≡ true) × Any (Mcasts x) (mcast m ∷ E) × ((chan N (mcast m ∷ E)) .mark x ≡ suc n)
           old n x (inl e) = let r = a .sent= n x e in (r .0, there (r .1), mark-on N (mcast m) E x (other (r .1)) ∙ r .2)
-          old n x (inr e) = (ap (N .mail .multi) (sym (e .1)) ∙ u, here (e .1), mark-now N (mcast m) E x (e .1) ∙ num x (ap (N .mail .multi) (sym (e .1)) ∙ u) (e .0))
+          old n x (inr e) = (
+            ap (N .mail .multi) (sym (e .1)) ∙ u,
+            here (e .1),
+            mark-now N (mcast m) E x (e .1)
+                ∙ num x (ap (N .mail .multi) (sym (e .1)) ∙ u) (e .0),
+          )
       go false u = record {
         taken= = a .taken=;
         inbox= = a .inbox=;
@@ -88,7 +99,8 @@ module _ {M : Type 0} (N : Network M) where
               → ((eqb c (N .mail .task m) ≡ true) × (some entry ≡ some x)) ⊎ ((eqb c (N .mail .task m) ≡ false) × (w .flight c ≡ some x))
               → InTransit N (mcast m ∷ E) (x .msg) (x .mark) × (N .mail .task (x .msg) ≡ c)
           fly c x (inl e) =
-              subst (λ y. InTransit N (mcast m ∷ E) (y .msg) (y .mark) × (N .mail .task (y .msg) ≡ c)) (Option·some-injective entry x (e .1)) (entry-in-transit u, sym (eqb-true _ _ (e .0)))
+              subst (λ y. InTransit N (mcast m ∷ E) (y .msg) (y .mark) × (N .mail .task (y .msg) ≡ c)) (Option·some-injective entry x (e .1))
+              (entry-in-transit u, sym (eqb-true _ _ (e .0)))
           fly c x (inr e) = let r = a .flies c x (e .1) in (on (r .0), r .1)
 
           off : (c : ℕ) (x : Tagged M) (i : ℕ)

@@ -13,7 +13,7 @@ use Rattle.channel.specs.Automaton.{Step, Mcasts, Receives, ChannelExecu
 use Rattle.channel.specs.TotalOrder.{epoch, bound, limit, rank}
 use Rattle.channel.proofs.Counts.{mcast-one, receive-one}
 use Rattle.channel.proofs.Times.{received?, epoch-number}
-use Rattle.channel.proofs.Sent.{number-one}
+use Rattle.channel.proofs.Integrity.{number-one}
 use Rattle.channel.proofs.Rank.{time-low, taken-limit, rank-broadcast, rank-received, rank-unreceived, epoch-low}
 
 module _ {M : Type 0} (N : Network M) (E : List (Step M)) (v : ChannelExecution N E) where
@@ -47,7 +47,8 @@ module _ {M : Type 0} (N : Network M) (E : List (Step M)) (v : ChannelExecution 
   pub no-place : {m n : M} {i : ℕ} {B C : List (Step M)} → N .mail .multi m ≡ false → At (Receives m i) B E → At (Mcasts n) C E
       → rank N E n ≡ enc (bound N E) (limit N E) (suc (length C)) → rank N E m ≡ rank N E n → ⊥
   no-place {m} {n} {i} {B} {C} u x y r q =
-      let z = enc-inj (bound N E) (epoch N E m) (suc (length B)) (limit N E) (suc (length C)) (time-low N E v x) (time-low N E v y) (sym (rank-received N E v u x) ∙ q ∙ r) .0 in
+      let z = enc-inj (bound N E) (epoch N E m) (suc (length B)) (limit N E) (suc (length C)) (time-low N E v x) (time-low N E v y)
+      (sym (rank-received N E v u x) ∙ q ∙ r) .0 in
       let l = epoch-limit x in
       omega arith
 
@@ -65,9 +66,11 @@ module _ {M : Type 0} (N : Network M) (E : List (Step M)) (v : ChannelExecution 
   one-rank {n = n} (numbered u x) (waiting {B = C} y r) e = absurd (no-time n (limit N E) (length C) u r (time-low N E v y) e)
   one-rank {m} (received {B = B} u x) (numbered w y) e = absurd (no-time m (epoch N E m) (length B) w (rank-received N E v u x) (time-low N E v x) (sym e))
   one-rank {m} {n} (received {i = i} {B = B} u x) (received {i = j} {B = C} w y) e =
-      same-message x y (enc-inj (bound N E) (epoch N E m) (suc (length B)) (epoch N E n) (suc (length C)) (time-low N E v x) (time-low N E v y) (sym (rank-received N E v u x) ∙ e ∙ rank-received N E v w y) .1) (receive-one i j)
+      same-message x y (enc-inj (bound N E) (epoch N E m) (suc (length B)) (epoch N E n) (suc (length C)) (time-low N E v x) (time-low N E v y)
+      (sym (rank-received N E v u x) ∙ e ∙ rank-received N E v w y) .1) (receive-one i j)
   one-rank (received u x) (waiting y r) e = absurd (no-place u x y r e)
   one-rank {m} (waiting {B = B} x r) (numbered w y) e = absurd (no-time m (limit N E) (length B) w r (time-low N E v x) (sym e))
   one-rank (waiting x r) (received w y) e = absurd (no-place w y x r (sym e))
   one-rank (waiting {B = B} x r) (waiting {B = C} y s) e =
-      same-message x y (enc-inj (bound N E) (limit N E) (suc (length B)) (limit N E) (suc (length C)) (time-low N E v x) (time-low N E v y) (sym r ∙ e ∙ s) .1) mcast-one
+      same-message x y (enc-inj (bound N E) (limit N E) (suc (length B)) (limit N E) (suc (length C)) (time-low N E v x) (time-low N E v y)
+      (sym r ∙ e ∙ s) .1) mcast-one

@@ -34,7 +34,8 @@ module _ {M : Type 0} (N : Network M) where
   pub queue : (E : List (Step M)) → ChannelExecution N E → (i : ℕ) → log E i ≡ gone E i ++ (chan N E) .inbox i
   queue [] v i = refl
   queue (mcast m ∷ E) v i = queue E (v .1) i
-  queue (take j m ∷ E) v i = ap (push (eqb i j && N .mail .to m j) m) (queue E (v .1) i) ∙ push-append (eqb i j && N .mail .to m j) m (gone E i) ((chan N E) .inbox i)
+  queue (take j m ∷ E) v i = ap (push (eqb i j && N .mail .to m j) m) (queue E (v .1) i)
+      ∙ push-append (eqb i j && N .mail .to m j) m (gone E i) ((chan N E) .inbox i)
   queue (join m ∷ E) v i = ap (push (eqb i (N .mail .dest m)) m) (queue E (v .1) i) ∙ push-append (eqb i (N .mail .dest m)) m (gone E i) ((chan N E) .inbox i)
   queue (receive m j ∷ E) v i = queue E (v .1) i ∙ go (eqb i j) refl
     where

@@ -6,7 +6,7 @@ use mathlib.Core.Bool.{Bool, true, false, cond}
 use mathlib.Core.List.{List, [], _∷_, _++_, append-assoc, append-nil}
 use mathlib.Core.Option.{Option, none, some}
 use Prim.Native.Nat.{ℕ, suc, _≤_}
-use Rattle.lists.specs.Histories.{Any, Suf, stop, back, suf-trans, In, here, there}
+use Rattle.lists.specs.Histories.{Any, Suf, suf-any, stop, back, suf-trans, In, here, there}
 use Rattle.lists.specs.Queues.{push, Once}
 use Rattle.channel.specs.Mail.{Mail}
 use Rattle.channel.specs.State.{Tagged, ChannelState, nth, released, ChannelAction, dispatch, takeBroadcast, takeSingle, deliver}
@@ -18,6 +18,10 @@ module _ {M : Type 0} (N : Network M) where
   pub joins-suf : (l : List M) (E : List (Step M)) → Suf E (joins l E)
   joins-suf [] E = stop
   joins-suf (a ∷ l) E = suf-trans (back stop) (joins-suf l (join a ∷ E))
+
+  pub joins-in : (l : List M) (E : List (Step M)) {m : M} → In m l → Any (Joins m) (joins l E)
+  joins-in (a ∷ l) E (here p) = suf-any (joins-suf l (join a ∷ E)) (here {e = join a} p)
+  joins-in (a ∷ l) E (there h) = joins-in l (join a ∷ E) h
 
   pub joins-mcast : (l : List M) {E : List (Step M)} {m : M} → Any (Mcasts m) E → Any (Mcasts m) (joins l E)
   joins-mcast [] h = h
@@ -67,12 +71,14 @@ module _ {M : Type 0} (N : Network M) where
       go false = refl
 
   pub joins-flows : (l : List M) (E : List (Step M)) → ChannelExecution N E → Once l
-      → ((m : M) → In m l → (N .mail .multi m ≡ false) × Any (Mcasts m) E × (¬ Any (Joins m) E) × ((chan N E) .mark m ≤ (chan N E) .taken (N .mail .dest m))) → ChannelExecution N (joins l E)
+      → ((m : M) → In m l → (N .mail .multi m ≡ false) × Any (Mcasts m) E × (¬ Any (Joins m) E) ×
+      ((chan N E) .mark m ≤ (chan N E) .taken (N .mail .dest m))) → ChannelExecution N (joins l E)
   joins-flows [] E v o f = v
   joins-flows (a ∷ l) E v o f = joins-flows l (join a ∷ E) (f a (here refl), v) (o .1) g
     where
       g : (m : M) → In m l
-          → (N .mail .multi m ≡ false) × Any (Mcasts m) (join a ∷ E) × (¬ Any (Joins m) (join a ∷ E)) × ((chan N E) .mark m ≤ (chan N E) .taken (N .mail .dest m))
+          → (N .mail .multi m ≡ false) × Any (Mcasts m) (join a ∷ E) × (¬ Any (Joins m) (join a ∷ E)) ×
+          ((chan N E) .mark m ≤ (chan N E) .taken (N .mail .dest m))
       g m h = let r = f m (there h) in (r .0, there (r .1), k, r .3)
         where
           k : ¬ Any (Joins m) (join a ∷ E)

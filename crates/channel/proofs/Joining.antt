@@ -18,7 +18,8 @@ use Rattle.channel.proofs.InboxHistory.{log, gone, queue}
 module _ {M : Type 0} (N : Network M) where
   pub join-can : (e : Step M) (B : List (Step M)) (m : M) → Joins m e → ChannelPrecondition N B e
       → (N .mail .multi m ≡ false) × Any (Mcasts m) B × (¬ Any (Joins m) B) × ((chan N B) .mark m ≤ (chan N B) .taken (N .mail .dest m))
-  join-can (join n) B m p c = subst (λ a. (N .mail .multi a ≡ false) × Any (Mcasts a) B × (¬ Any (Joins a) B) × ((chan N B) .mark a ≤ (chan N B) .taken (N .mail .dest a))) p c
+  join-can (join n) B m p c = subst (λ a. (N .mail .multi a ≡ false) × Any (Mcasts a) B × (¬ Any (Joins a) B) ×
+      ((chan N B) .mark a ≤ (chan N B) .taken (N .mail .dest a))) p c
 
   pub take-can : (e : Step M) (B : List (Step M)) (m : M) (i : ℕ) → Takes i m e → ChannelPrecondition N B e
       → (N .mail .multi m ≡ true) × Any (Mcasts m) B × ((chan N B) .mark m ≡ suc ((chan N B) .taken i))
@@ -51,7 +52,11 @@ module _ {M : Type 0} (N : Network M) where
       go (inl x) r = entered-on (r x)
       go (inr x) r =
           let e = eqb-true i j (and-fst (eqb i j) _ (x .1)) in
-          record { when = E; how = taking (now {e = take j n} (x .0, sym e)) (ap (N .mail .to m) e ∙ ap (λ a. N .mail .to a j) (sym (x .0)) ∙ and-snd (eqb i j) _ (x .1)) }
+          record {
+            when = E;
+            how = taking (now {e = take j n} (x .0, sym e))
+                (ap (N .mail .to m) e ∙ ap (λ a. N .mail .to a j) (sym (x .0)) ∙ and-snd (eqb i j) _ (x .1));
+          }
   log-entered (join n ∷ E) m i h = go (push-cases (eqb i (N .mail .dest n)) (log N E i) h) (λ x. log-entered E m i x)
     where
       go : In m (log N E i) ⊎ ((n ≡ m) × (eqb i (N .mail .dest n) ≡ true)) → (In m (log N E i) → Entered m i E) → Entered m i (join n ∷ E)

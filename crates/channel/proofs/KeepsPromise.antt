@@ -9,8 +9,9 @@ use Rattle.channel.specs.Mail.{Mail}
 use Rattle.channel.specs.Network.{Network}
 use Rattle.channel.specs.Automaton.{Step, mcast, take, join, receive, rest, Mcasts, Receives, ChannelExecution, external}
 use Rattle.channel.specs.TotalOrder.{rank}
-use Rattle.channel.proofs.Sent.{was-sent, received-once}
-use Rattle.channel.proofs.PromiseParts.{received-before, sent-above}
+use Rattle.channel.proofs.Integrity.{was-sent, received-once}
+use Rattle.channel.proofs.ReceiveConsistency.{received-before}
+use Rattle.channel.proofs.ContextSafety.{sent-above}
 use Rattle.channel.proofs.Distinct.{form, one-rank}
 
 module _ {M : Type 0} (N : Network M) where
@@ -63,5 +64,6 @@ module _ {M : Type 0} (N : Network M) where
       sent = λ m i B x. let r = was-sent N E v (at-map (gets→ m i) x) in any-map (→to m i (r .1)) (r .0);
       once = λ m i B x y. received-once N E v (at-map (gets→ m i) x) (any-map (gets→ m i) y);
       receive-consistent = λ m n i B x y h. let r = any-split y (to→ n i) in any-map (→gets n i) (received-before N E v (at-map (gets→ m i) x) (r .0) (r .1) h);
-      context-safe = λ m n i B x y. let r = at-split x (from→ m i) in sent-above N E v (r .0) (subst (λ c. Any (Receives n c) B) (sym (r .1)) (any-map (gets→ n i) y));
+      context-safe = λ m n i B x y. let r = at-split x (from→ m i) in sent-above N E v (r .0)
+          (subst (λ c. Any (Receives n c) B) (sym (r .1)) (any-map (gets→ n i) y));
     }

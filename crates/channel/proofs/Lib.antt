@@ -1,40 +1,21 @@
-pub mod Blocks
-pub mod View
-pub mod Tags
-pub mod Release
-pub mod Facts
-pub mod Frame
-pub mod Answering
-pub mod Receiving
-pub mod Taking
-pub mod TakeBroadcastLaw
-pub mod HeldMore
-pub mod Landing
-pub mod TakeSingleLaw
-pub mod Sending
-pub mod DispatchLaw
-pub mod Destinations
-pub mod Fitting
-pub mod FitMoves
-pub mod FitRelease
-pub mod FitSized
-pub mod SizedReceive
-pub mod SizedTakeBroadcast
-pub mod SizedTakeSingle
-pub mod SizedDispatch
-pub mod BeginLaw
+-- The automaton of 000 §6 keeps the promise
 pub mod Counts
 pub mod InboxHistory
 pub mod Joining
 pub mod Times
 pub mod InboxOrder
-pub mod Sent
+pub mod Integrity
 pub mod Rank
-pub mod PromiseParts
+pub mod ReceiveConsistency
+pub mod ContextSafety
 pub mod Distinct
 pub mod KeepsPromise
+-- The order T, the paper's wording, and what the promise refuses
 pub mod RankOrder
 pub mod PromiseLaws
+pub mod PaperWording
+pub mod Mistakes
+-- The channel's state keeps step with the automaton
 pub mod Held
 pub mod Agreement
 pub mod JoinLists
@@ -43,15 +24,48 @@ pub mod TakeBroadcastKeeps
 pub mod TakeSingleKeeps
 pub mod DeliverKeeps
 pub mod ChannelKeeps
-pub mod PaperWording
+pub mod Arrivals
+pub mod NothingLost
+pub mod Delivered
+pub mod Prompt
+-- The same under other names
 pub mod RenamedLists
 pub mod RenamedSteps
 pub mod RenamedRefusals
+-- Any list of calls
 pub mod Postings
 pub mod CallsKeepPromise
-pub mod Prompt
-pub mod Mistakes
-pub mod Arrivals
+pub mod CallsEvents
 pub mod CallsEpoch
+pub mod CallsComplete
+-- Blocks of words, and the queues that they show
+pub mod Blocks
+pub mod View
+pub mod HeldMore
+pub mod Tags
+pub mod Release
+pub mod Destinations
+pub mod Facts
+pub mod Frame
+-- What each operation does to the memory is what it does to the idealised state
+pub mod Answering
+pub mod Receiving
+pub mod Taking
+pub mod TakeBroadcastLaw
+pub mod Landing
+pub mod TakeSingleLaw
+pub mod Sending
+pub mod DispatchLaw
+pub mod BeginLaw
+-- Each operation keeps the memory well sized
+pub mod Fitting
+pub mod FitMoves
+pub mod FitRelease
+pub mod FitSized
+pub mod SizedReceive
+pub mod SizedTakeBroadcast
+pub mod SizedTakeSingle
+pub mod SizedDispatch
+-- Any list of calls on a memory
 pub mod CallLaws
 pub mod RunLaw

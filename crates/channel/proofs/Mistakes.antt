@@ -13,7 +13,8 @@ abbrev pub Unordered : List (Act ℕ) → Type 0
 Unordered E = (rank : ℕ → ℕ) → ¬ Promise (λ e. e) rank E
 
 -- card i sends m after it received n, and card j, to which both go, receives m without n
-overtaken : (m n i j : ℕ) {B C E : List (Act ℕ)} → At (McastFrom m i) B E → Any (IsReceive n i) B → At (IsReceive m j) C E → Any (McastTo n j) E
+overtaken : (m n i j : ℕ) {B C E : List (Act ℕ)} → At (McastFrom m i) B E → Any (IsReceive n i) B → At (IsReceive m j) C E
+    → Any (McastTo n j) E
     → ¬ Any (IsReceive n j) C → Unordered E
 overtaken m n i j {B} {C} x y z u without rank p = without (p .receive-consistent m n j C z u (p .context-safe m n i B x y))
 

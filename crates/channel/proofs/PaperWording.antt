@@ -106,7 +106,8 @@ module _ {X M : Type 0} (view : X → Act M) (T : M → M → Type 0) (E : List 
           → height n < height m → Any (λ e. IsReceive n i (view e)) B
       consistent m n i B x y h = go (at-order x (y .1))
         where
-          go : ((e : X) × IsReceive m i (view e) × IsReceive n i (view e)) ⊎ (At (λ e. IsReceive m i (view e)) B (y .0) ⊎ At (λ e. IsReceive n i (view e)) (y .0) B)
+          go : ((e : X) × IsReceive m i (view e) × IsReceive n i (view e)) ⊎
+              (At (λ e. IsReceive m i (view e)) B (y .0) ⊎ At (λ e. IsReceive n i (view e)) (y .0) B)
               → Any (λ e. IsReceive n i (view e)) B
           go (inl w) = let k = ap height (one-receive m n i (view (w .0)) (w .1) (w .2)) in absurd (omega arith)
           go (inr (inl w)) = let k = lower (c .receive-consistent m n i (y .0) (y .1) (at-any w)) in absurd (omega arith)

@@ -28,7 +28,8 @@ module _ {M : Type 0} (mail : Mail M) where
   taking-prompt w i none p j m t h = p j m t h
   taking-prompt w i (some a) p j m t h = go (eqb j i) refl h
     where
-      go : (b : Bool) → eqb j i ≡ b → Any (Holds m t) (cond b (kept (suc (w .taken i)) (w .held j)) (w .held j)) → cond b (suc (w .taken j)) (w .taken j) < t
+      go : (b : Bool) → eqb j i ≡ b → Any (Holds m t) (cond b (kept (suc (w .taken i)) (w .held j)) (w .held j))
+          → cond b (suc (w .taken j)) (w .taken j) < t
       go true e h =
           let k = kept-in (suc (w .taken i)) m t (w .held j) h in
           let q = p j m t (k .0) in
@@ -37,7 +38,8 @@ module _ {M : Type 0} (mail : Mail M) where
           omega (arith, n)
       go false e h = p j m t h
 
-  landing-prompt : (w : ChannelState M) (c : ℕ) (x : Tagged M) (b : Bool) → leb (x .mark) (w .taken (mail .dest (x .msg))) ≡ b → Prompt w → Prompt (landing mail b w c x)
+  landing-prompt : (w : ChannelState M) (c : ℕ) (x : Tagged M) (b : Bool) → leb (x .mark) (w .taken (mail .dest (x .msg))) ≡ b → Prompt w
+      → Prompt (landing mail b w c x)
   landing-prompt w c x true e p i m t h = p i m t h
   landing-prompt w c x false e p i m t h = go (push-any (eqb i (mail .dest (x .msg))) x (w .held i) h)
     where

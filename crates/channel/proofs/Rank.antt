@@ -19,7 +19,7 @@ use Rattle.channel.proofs.InboxHistory.{log, gone, receives-gone, recei
 use Rattle.channel.proofs.Joining.{take-can, Entry, log-entered, taking, joining}
 use Rattle.channel.proofs.Times.{receives-test, receives-tested, taken-at, at-mcast, epoch-number, epoch-joined}
 use Rattle.channel.proofs.InboxOrder.{joinKey, joinKey-number, log-sorted}
-use Rattle.channel.proofs.Sent.{was-sent, received-once}
+use Rattle.channel.proofs.Integrity.{was-sent, received-once}
 
 module _ {M : Type 0} (N : Network M) (E : List (Step M)) (v : ChannelExecution N E) where
   pub time-low : {P : Step M → Type 0} {B : List (Step M)} → At P B E → suc (length B) < bound N E
@@ -32,7 +32,8 @@ module _ {M : Type 0} (N : Network M) (E : List (Step M)) (v : ChannelExecution 
       omega arith
 
   pub rank-broadcast : {m : M} → N .mail .multi m ≡ true → rank N E m ≡ enc (bound N E) (epoch N E m) 0
-  rank-broadcast {m} u = ap (λ t. cond t (enc (bound N E) (epoch N E m) 0) (rank-single (bound N E) (limit N E) (epoch N E m) (time (mcasts? N m) E) (time (receives? N m) E))) u
+  rank-broadcast {m} u = ap (λ t. cond t (enc (bound N E) (epoch N E m) 0)
+      (rank-single (bound N E) (limit N E) (epoch N E m) (time (mcasts? N m) E) (time (receives? N m) E))) u
 
   pub only-dest : {m : M} {i : ℕ} → N .mail .multi m ≡ false → N .mail .to m i ≡ true → N .mail .dest m ≡ i
   only-dest {m} {i} u t = sym (eqb-true _ _ (sym (N .single m u i) ∙ t))
@@ -45,13 +46,15 @@ module _ {M : Type 0} (N : Network M) (E : List (Step M)) (v : ChannelExecution 
   rank-received {m} {i} {B} u x =
       ap (λ t. cond t (enc (bound N E) (epoch N E m) 0) (rank-single (bound N E) (limit N E) (epoch N E m) (time (mcasts? N m) E) (time (receives? N m) E))) u
       ∙ ap (rank-single (bound N E) (limit N E) (epoch N E m) (time (mcasts? N m) E))
-      (latest-at (receives? N m) (receives-test N m) (receives-tested N m) (λ B. suc (length B)) (λ C y. received-once N E v y) (subst (λ j. At (Receives m j) B E) (sym (received-dest u x)) x))
+      (latest-at (receives? N m) (receives-test N m) (receives-tested N m) (λ B. suc (length B)) (λ C y. received-once N E v y)
+      (subst (λ j. At (Receives m j) B E) (sym (received-dest u x)) x))
 
   pub rank-unreceived : {m : M} {B : List (Step M)} → N .mail .multi m ≡ false → At (Mcasts m) B E → ¬ Any (Receives m (N .mail .dest m)) E
       → rank N E m ≡ enc (bound N E) (limit N E) (suc (length B))
   rank-unreceived {m} u x n =
       ap (λ t. cond t (enc (bound N E) (epoch N E m) 0) (rank-single (bound N E) (limit N E) (epoch N E m) (time (mcasts? N m) E) (time (receives? N m) E))) u
-      ∙ ap (rank-single (bound N E) (limit N E) (epoch N E m) (time (mcasts? N m) E)) (latest-none (receives? N m) (receives-test N m) (receives-tested N m) (λ B. suc (length B)) E n)
+      ∙ ap (rank-single (bound N E) (limit N E) (epoch N E m) (time (mcasts? N m) E))
+      (latest-none (receives? N m) (receives-test N m) (receives-tested N m) (λ B. suc (length B)) E n)
       ∙ ap (enc (bound N E) (limit N E)) (at-mcast N E v (λ B. suc (length B)) x)
 
   -- what is received has an epoch that its card has reached
@@ -94,7 +97,7 @@ module _ {M : Type 0} (N : Network M) (E : List (Step M)) (v : ChannelExecution 
       let z = enc-le (bound N E) (epoch N E m) (g .sub) ((chan N B) .taken i) (suc (length B)) (epoch-low x) (g .soon) in
       omega arith
 
-  -- a card receives in the order of the ranks (Lemma 6.8)
+  -- a card receives in the order of the ranks (000 Lemma 6.8)
   pub receive-order : {m n : M} {i : ℕ} {B C : List (Step M)} → At (Receives m i) B C → At (Receives n i) C E → rank N E m < rank N E n
   receive-order {m} {n} {i} {B} {C} x y = go (N .mail .multi n) refl
     where

@@ -94,7 +94,8 @@ module _ {M : Type 0} (N : Network M) where
           box : (j : ℕ) (t : Bool) → eqb j i ≡ t
               → cond t (push (N .mail .to m i) m (w .inbox j) ++ released n (w .held j)) (w .inbox j)
               ≡ cond t (push (t && N .mail .to m i) m ((chan N E) .inbox j) ++ rel) (push (t && N .mail .to m i) m ((chan N E) .inbox j))
-          box j true y = ap (λ l. push (N .mail .to m i) m l ++ released n (w .held j)) (a .inbox= j) ∙ ap (λ c. push (N .mail .to m i) m ((chan N E) .inbox j) ++ released n (w .held c)) (eqb-true _ _ y)
+          box j true y = ap (λ l. push (N .mail .to m i) m l ++ released n (w .held j)) (a .inbox= j)
+              ∙ ap (λ c. push (N .mail .to m i) m ((chan N E) .inbox j) ++ released n (w .held c)) (eqb-true _ _ y)
           box j false y = a .inbox= j
 
           free : (x : M) → In x rel → (N .mail .multi x ≡ false) × Any (Mcasts x) (take i m ∷ E) × (¬ Any (Joins x) (take i m ∷ E))

@@ -32,7 +32,13 @@ module _ {M : Type 0} (N : Network M) where
           l = a .flies c x e .0
 
           may : leb (x .mark) (w .taken (N .mail .dest (x .msg))) ≡ true → ChannelPrecondition N E (join (x .msg))
-          may y = (l .alone, l .mcast-it, l .unjoined, let p = leb-true (x .mark) (w .taken (N .mail .dest (x .msg))) y in let k = l .tag-is in let r = a .taken= (N .mail .dest (x .msg)) in omega arith)
+          may y = (
+            l .alone,
+            l .mcast-it,
+            l .unjoined,
+            let p = leb-true (x .mark)
+                (w .taken (N .mail .dest (x .msg))) y in let k = l .tag-is in let r = a .taken= (N .mail .dest (x .msg)) in omega arith,
+          )
 
           -- another task's message is another message
           differs : (d : ℕ) (y : Tagged M) → eqb d c ≡ false → w .flight d ≡ some y → ¬ (x .msg ≡ y .msg)
@@ -56,7 +62,11 @@ module _ {M : Type 0} (N : Network M) where
               made= = a .made=;
               sent= = λ n m y. let r = a .sent= n m y in (r .0, there (r .1), r .2);
               flies = λ d y f. let z = left d y f in let r = a .flies d y (z .1) in (in-transit-on N (r .0) (λ p. p) (differs d y (z .0) (z .1)), r .1);
-              holds = λ i m t h. let r = a .holds i m t h in (in-transit-on N (r .0) (λ p. p) (λ p. a .apart c x i e (subst (λ b. Any (Names b) (w .held i)) (sym p) (holds-names h))), r .1);
+              holds = λ i m t h. let r = a .holds i m t h in (
+                in-transit-on N (r .0) (λ p. p)
+                    (λ p. a .apart c x i e (subst (λ b. Any (Names b) (w .held i)) (sym p) (holds-names h))),
+                r .1,
+              );
               apart = λ d y i f. a .apart d y i (left d y f .1);
               each = a .each;
             },
@@ -79,8 +89,11 @@ module _ {M : Type 0} (N : Network M) where
               hold : (i : ℕ) (m : M) (t : ℕ) → Any (Holds m t) (w .held i) ⊎ ((eqb i (N .mail .dest (x .msg)) ≡ true) × Holds m t x)
                   → InTransit N E m t × (N .mail .dest m ≡ i)
               hold i m t (inl h) = a .holds i m t h
-              hold i m t (inr h) =
-                  (subst (λ b. InTransit N E b t) (h .1 .0) (subst (λ b. InTransit N E (x .msg) b) (h .1 .1) l), ap (N .mail .dest) (sym (h .1 .0)) ∙ sym (eqb-true _ _ (h .0)))
+              hold i m t (inr h) = (
+                subst (λ b. InTransit N E b t) (h .1 .0) (subst (λ b. InTransit N E (x .msg) b) (h .1 .1) l),
+                ap (N .mail .dest) (sym (h .1 .0))
+                    ∙ sym (eqb-true _ _ (h .0)),
+              )
 
               off : (d : ℕ) (y : Tagged M) (i : ℕ) → (eqb d c ≡ false) × (w .flight d ≡ some y)
                   → Any (Names (y .msg)) (w .held i) ⊎ ((eqb i (N .mail .dest (x .msg)) ≡ true) × (x .msg ≡ y .msg)) → ⊥

@@ -53,7 +53,8 @@ module _ {M : Type 0} (N : Network M) where
   received? E m = any? (receives? N m) (receives-test m) (receives-tested m) E
 
   pub taken-now : (e : Step M) (E : List (Step M)) (m : M) (i : ℕ) → Takes i m e → suc ((chan N E) .taken i) ≤ (chan N (e ∷ E)) .taken i
-  taken-now (take j n) E m i p = subst (λ t. suc ((chan N E) .taken i) ≤ cond t (suc ((chan N E) .taken i)) ((chan N E) .taken i)) (sym (eqb-of (sym (p .1)))) (omega arith)
+  taken-now (take j n) E m i p = subst (λ t. suc ((chan N E) .taken i) ≤ cond t (suc ((chan N E) .taken i)) ((chan N E) .taken i))
+      (sym (eqb-of (sym (p .1)))) (omega arith)
 
   pub taken-at : {B E : List (Step M)} {m : M} {i : ℕ} → At (Takes i m) B E → suc ((chan N B) .taken i) ≤ (chan N E) .taken i
   taken-at {m = m} {i} (now {e = e} {E = E} p) = taken-now e E m i p

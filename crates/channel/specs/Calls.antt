@@ -1,7 +1,7 @@
 -- Any list of calls of the channel, refused ones included, and what is promised of it. The calls' messages may repeat; a message's identity
 -- is the number of the dispatch that was done with it.
 use mathlib.Core.Path.{_≡_}
-use mathlib.Core.Bool.{Bool, cond, _&&_}
+use mathlib.Core.Bool.{Bool, true, cond, _&&_}
 use mathlib.Core.List.{List, [], _∷_, _++_}
 use Prim.Native.Nat.{ℕ, _<_}
 use lib.Dec.{eqb}
@@ -14,7 +14,7 @@ use Rattle.channel.specs.Mail.{Mail}
 use Rattle.channel.specs.State.{Tagged, ChannelState, initialChannel, ChannelAction, dispatch, takeBroadcast, takeSingle, deliver, channelStep}
 use Rattle.channel.specs.Refusals.{channelRefusal}
 use Rattle.channel.specs.Network.{Network}
-use Rattle.channel.specs.Automaton.{Step, external}
+use Rattle.channel.specs.Automaton.{Step, mcast, receive, external}
 use Rattle.channel.specs.TotalOrder.{rank}
 use Rattle.channel.specs.Trace.{steps}
 use Rattle.channel.specs.Renaming.{channel-map}
@@ -46,6 +46,10 @@ pub record Setup (M : Type 0) : Type 0 where
   pub blank : Posted M  -- what a number names that was never given
 
 module _ {M : Type 0} (C : Setup M) where
+  -- where the channel brings a message: a broadcast to its destinations, another message to its one destination
+  abbrev pub goes : M → ℕ → Bool
+  goes m i = cond (C .mail .multi m) (C .mail .to m i) (eqb i (C .mail .dest m))
+
   -- a call is done if what it names is in range and nothing refuses it
   abbrev pub done : ChannelState M → ChannelAction M → Bool
   done w x = C .inRange x && eqb (channelRefusal (C .mail) (C .cards) w x) 0
@@ -65,11 +69,10 @@ module _ {M : Type 0} (C : Setup M) where
     abbrev pub letter : ℕ → M
     letter k = (getD P k (C .blank)) .body
 
-    -- where a message goes: a broadcast to its destinations, another message to its one destination
     abbrev pub numberedMail : Mail ℕ
     numberedMail = record {
       task = λ k. C .mail .task (letter k);
-      to = λ k i. cond (C .mail .multi (letter k)) (C .mail .to (letter k) i) (eqb i (C .mail .dest (letter k)));
+      to = λ k. goes (letter k);
       multi = λ k. C .mail .multi (letter k);
       dest = λ k. C .mail .dest (letter k);
     }
@@ -94,12 +97,28 @@ module _ {M : Type 0} (C : Setup M) where
     trace [] = []
     trace (x ∷ xs) = cond (done (calls xs) x) (steps numberedMail (numbered xs) (numbering (length (posted xs)) x) (trace xs)) (trace xs)
 
+  -- of a whole list of calls: its messages by their numbers, and its history
+  abbrev pub network : List (ChannelAction M) → Network ℕ
+  network xs = numbers (posted xs)
+
+  abbrev pub history : List (ChannelAction M) → List (Step ℕ)
+  history xs = trace (posted xs) xs
+
+  -- What the events are: a dispatch that is done multicasts its message, from its card, under the next number; a receive that is done hands
+  -- up the head of the card's inbox, which is the message that its number names.
+  pub record CallsEvents (xs : List (ChannelAction M)) : Type 0 where
+    pub multicasts : (ys : List (ChannelAction M)) (i : ℕ) (m : M) → Suf (dispatch i m ∷ ys) xs → done (calls ys) (dispatch i m) ≡ true
+        → (trace (posted xs) (dispatch i m ∷ ys) ≡ mcast (length (posted ys)) ∷ trace (posted xs) ys)
+        × (getD (posted xs) (length (posted ys)) (C .blank) ≡ record { from = i; body = m })
+    pub receives : (ys : List (ChannelAction M)) (i : ℕ) → Suf (deliver i ∷ ys) xs → done (calls ys) (deliver i) ≡ true
+        → (k : ℕ) × (r : List M) × ((calls ys) .inbox i ≡ letter (posted xs) k ∷ r) × (trace (posted xs) (deliver i ∷ ys) ≡ receive k i ∷ trace (posted xs) ys)
+
   -- What is promised of a list of calls. `promise`: with 000 §6.2's order T as rank, the multicasts and receives keep the promise.
   -- `number-once`: a number is multicast once. `shows`: at every moment the state is that of the numbers, with messages for numbers.
   -- `prompt`: what is held has a tag above the number of broadcasts taken there, so nothing is held longer than its tag asks.
   pub record CallsPromise (xs : List (ChannelAction M)) : Type 0 where
-    pub promise : Promise (external (numbers (posted xs))) (rank (numbers (posted xs)) (trace (posted xs) xs)) (trace (posted xs) xs)
-    pub number-once : (k : ℕ) (B : List (Step ℕ)) → At (λ e. IsMcast k (external (numbers (posted xs)) e)) B (trace (posted xs) xs)
-        → ¬ Any (λ e. IsMcast k (external (numbers (posted xs)) e)) B
+    pub promise : Promise (external (network xs)) (rank (network xs) (history xs)) (history xs)
+    pub number-once : (k : ℕ) (B : List (Step ℕ)) → At (λ e. IsMcast k (external (network xs) e)) B (history xs)
+        → ¬ Any (λ e. IsMcast k (external (network xs) e)) B
     pub shows : (ys : List (ChannelAction M)) → Suf ys xs → calls ys ≡ channel-map (letter (posted xs)) (numbered (posted xs) ys)
     pub prompt : (i : ℕ) (x : Tagged M) → In x ((calls xs) .held i) → (calls xs) .taken i < x .mark

@@ -10,7 +10,7 @@ use Rattle.channel.specs.Mail.{Mail}
 use Rattle.channel.specs.State.{ChannelState, ChannelAction, dispatch, takeBroadcast, takeSingle, deliver}
 use Rattle.channel.specs.Refusals.{channelRefusal}
 use Rattle.channel.specs.TotalOrder.{rank}
-use Rattle.channel.specs.Calls.{Setup, calls, posted, numbers, trace}
+use Rattle.channel.specs.Calls.{Setup, calls, network, history}
 
 pub data Note : Type 0 where
   update : Note  -- of register 0, on all three cards, by task 2
@@ -126,7 +126,7 @@ abbrev k9-all : List (ChannelAction Note)
 k9-all = newest (k9 ++ (takeBroadcast 1 ∷ deliver 1 ∷ deliver 1 ∷ [])) []
 
 abbrev k9-rank : ℕ → ℕ
-k9-rank = let P = posted setup k9-all in rank (numbers setup P) (trace setup P k9-all)
+k9-rank = rank (network setup k9-all) (history setup k9-all)
 
 -- eight steps, so an epoch counts 10: 1 * 10 + 0
 pub k9-first : k9-rank 0 ≡ 10

@@ -1,7 +1,21 @@
+-- What is promised (000 §4), for runs that may be unfinished and in the paper's own wording
 pub mod Promise
+pub mod ContextMulticast
+-- The channel's state and operations (01, steps 6 to 9) and their refusals
 pub mod Mail
 pub mod State
 pub mod Refusals
+pub mod Renaming
+-- 000 §6: the automaton, the order T, and the steps that an operation is
+pub mod Network
+pub mod Automaton
+pub mod TotalOrder
+pub mod Trace
+-- Any list of calls: what is claimed of it
+pub mod Calls
+pub mod AtRest
+pub mod Examples
+-- The lent memory: where things lie, and what each function does to the words
 pub mod Layout
 pub mod Letters
 pub mod Answers
@@ -11,13 +25,6 @@ pub mod TakeBroadcast
 pub mod TakeSingle
 pub mod Dispatch
 pub mod Sized
+-- What a memory shows of the idealised state, and what is claimed of any list of calls on it
 pub mod Shows
-pub mod Network
-pub mod Automaton
-pub mod TotalOrder
-pub mod Trace
-pub mod ContextMulticast
-pub mod Renaming
-pub mod Calls
-pub mod Examples
 pub mod MemoryCalls

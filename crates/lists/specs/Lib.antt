@@ -1,4 +1,5 @@
 pub mod Tests
+pub mod Conjunctions
 pub mod Every
 pub mod Loops
 pub mod Parts
@@ -7,8 +8,7 @@ pub mod Histories
 pub mod Latest
 pub mod Queues
 pub mod Filters
+pub mod Counts
+pub mod Maps
 pub mod Keys
 pub mod Sorting
-pub mod Counts
-pub mod Conjunctions
-pub mod Maps

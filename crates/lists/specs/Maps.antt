@@ -1,27 +1,46 @@
--- A list with each element replaced by its image: the queue operations and the filters do to the images what they do to the elements.
-use mathlib.Core.Path.{_≡_, refl, ap, _∙_}
+-- Lists and queues under a map; maps that agree on a list.
+use Prim.Native.Nat.{ℕ, suc}
+use mathlib.Core.Path.{_≡_, refl, ap, ap₂, _∙_}
 use mathlib.Core.Bool.{Bool, true, false}
-use mathlib.Core.List.{List, [], _∷_, map, map-append}
-use Prim.Native.Nat.{suc}
+use mathlib.Core.List.{List, [], _∷_, _++_, map}
+use mathlib.Core.Option.{Option, none, some, Option·map}
 use lib.ListN.{length}
+use Rattle.lists.specs.Histories.{In, here, there}
 use Rattle.lists.specs.Queues.{push, pop}
 use Rattle.lists.specs.Filters.{keep, filter}
 
-module _ {A B : Type 0} (f : A → B) where
-  pub map-push : (t : Bool) (a : A) (l : List A) → map f (push t a l) ≡ push t (f a) (map f l)
-  map-push true a l = map-append f l (a ∷ [])
+module _ {A B : Type 0} (h : A → B) where
+  pub map-length : (l : List A) → length (map h l) ≡ length l
+  map-length [] = refl
+  map-length (a ∷ l) = ap suc (map-length l)
+
+  pub map-append : (l r : List A) → map h (l ++ r) ≡ map h l ++ map h r
+  map-append [] r = refl
+  map-append (a ∷ l) r = ap (λ k. h a ∷ k) (map-append l r)
+
+  pub map-push : (t : Bool) (a : A) (l : List A) → map h (push t a l) ≡ push t (h a) (map h l)
+  map-push true a l = map-append l (a ∷ [])
   map-push false a l = refl
 
-  pub map-pop : (t : Bool) (l : List A) → map f (pop t l) ≡ pop t (map f l)
+  pub map-pop : (t : Bool) (l : List A) → map h (pop t l) ≡ pop t (map h l)
   map-pop false l = refl
   map-pop true [] = refl
   map-pop true (a ∷ l) = refl
 
-  -- as many images pass a test as elements pass its like
-  pub length-filter-map : (p : A → Bool) (q : B → Bool) → ((a : A) → q (f a) ≡ p a) → (l : List A) → length (filter q (map f l)) ≡ length (filter p l)
+  -- as many pass a test that agrees on what is mapped
+  pub length-filter-map : (p : A → Bool) (q : B → Bool) → ((a : A) → q (h a) ≡ p a) → (l : List A) → length (filter q (map h l)) ≡ length (filter p l)
   length-filter-map p q e [] = refl
-  length-filter-map p q e (a ∷ l) = ap (λ t. length (keep t (f a) (filter q (map f l)))) (e a) ∙ go (p a) (length-filter-map p q e l)
+  length-filter-map p q e (a ∷ l) = ap (λ t. length (keep t (h a) (filter q (map h l)))) (e a) ∙ go (p a) (length-filter-map p q e l)
     where
-      go : (t : Bool) → length (filter q (map f l)) ≡ length (filter p l) → length (keep t (f a) (filter q (map f l))) ≡ length (keep t a (filter p l))
+      go : (t : Bool) → length (filter q (map h l)) ≡ length (filter p l) → length (keep t (h a) (filter q (map h l))) ≡ length (keep t a (filter p l))
       go true r = ap suc r
       go false r = r
+
+module _ {A B : Type 0} (h k : A → B) where
+  pub map-agree : (l : List A) → ((a : A) → In a l → h a ≡ k a) → map h l ≡ map k l
+  map-agree [] e = refl
+  map-agree (a ∷ l) e = ap₂ (λ x y. x ∷ y) (e a (here refl)) (map-agree l (λ b x. e b (there x)))
+
+  pub option-agree : (o : Option A) → ((a : A) → o ≡ some a → h a ≡ k a) → Option·map h o ≡ Option·map k o
+  option-agree none e = refl
+  option-agree (some a) e = ap some (e a refl)

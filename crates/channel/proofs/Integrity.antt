@@ -85,7 +85,8 @@ module _ {M : Type 0} (N : Network M) (E : List (Step M)) (v : ChannelExecution 
 
   -- what stands in an inbox has not been received there
   pub unreceived-inbox : {m : M} {i : ℕ} → In m ((chan N E) .inbox i) → ¬ Any (Receives m i) E
-  unreceived-inbox {m} {i} h p = let k = apart (joinKey N E) (gone N E i) ((chan N E) .inbox i) (subst (Sorted (joinKey N E)) (queue N E v i) (log-sorted N E v E i stop)) (receives-gone N p) h in omega arith
+  unreceived-inbox {m} {i} h p = let k = apart (joinKey N E) (gone N E i) ((chan N E) .inbox i)
+      (subst (Sorted (joinKey N E)) (queue N E v i) (log-sorted N E v E i stop)) (receives-gone N p) h in omega arith
 
   pub received-joined : {m : M} {i : ℕ} → N .mail .multi m ≡ false → Any (Receives m i) E → Any (Joins m) E
   received-joined {m} {i} u p = go (log-entered N E m i (subst (In m) (sym (queue N E v i)) (any-left _ (receives-gone N p))) .how)
