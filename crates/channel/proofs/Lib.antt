@@ -38,6 +38,8 @@ pub mod CallsKeepPromise
 pub mod CallsEvents
 pub mod CallsEpoch
 pub mod CallsComplete
+-- What the refusals say
+pub mod RefusalsMean
 -- Blocks of words, and the queues that they show
 pub mod Blocks
 pub mod View
@@ -69,3 +71,4 @@ pub mod SizedDispatch
 -- Any list of calls on a memory
 pub mod CallLaws
 pub mod RunLaw
+pub mod ChannelLaw

@@ -5,6 +5,7 @@ pub mod ContextMulticast
 pub mod Mail
 pub mod State
 pub mod Refusals
+pub mod RefusalMeanings
 pub mod Renaming
 -- 000 §6: the automaton, the order T, and the steps that an operation is
 pub mod Network
