@@ -43,20 +43,20 @@ module _ (cards tasks registers : ℕ) (ok : sizesFit cards tasks registers ≡ 
       ∙ getD-set-other (set blank 0 cards) 1 a tasks 0 (omega arith)
       ∙ getD-set-other blank 0 a cards 0 (omega arith) ∙ zeros 4808 a
 
-  cards-is : getD ws 0 0 ≡ cards
+  pub cards-is : getD ws 0 0 ≡ cards
   unfolding begun
   cards-is =
       getD-set-other (set (set blank 0 cards) 1 tasks) 2 0 registers 0 (omega arith)
       ∙ getD-set-other (set blank 0 cards) 1 0 tasks 0 (omega arith)
       ∙ getD-set-same blank 0 cards 0 (omega (arith, blank-long))
 
-  tasks-is : getD ws 1 0 ≡ tasks
+  pub tasks-is : getD ws 1 0 ≡ tasks
   unfolding begun
   tasks-is =
       getD-set-other (set (set blank 0 cards) 1 tasks) 2 1 registers 0 (omega arith)
       ∙ getD-set-same (set blank 0 cards) 1 tasks 0 (omega (arith, blank-long, length-set blank 0 cards))
 
-  registers-is : getD ws 2 0 ≡ registers
+  pub registers-is : getD ws 2 0 ≡ registers
   unfolding begun
   registers-is =
       getD-set-same (set (set blank 0 cards) 1 tasks) 2 registers 0

@@ -26,7 +26,7 @@ use Rattle.channel.proofs.PaperWording.{channel-complete}
 use Rattle.channel.proofs.NothingLost.{Safe, safe-start, step-safe}
 use Rattle.channel.proofs.Delivered.{delivered}
 use Rattle.channel.proofs.RenamedRefusals.{channelRefusal-map}
-use Rattle.channel.proofs.CallsKeepPromise.{alike, renamed, Upto, upto}
+use Rattle.channel.proofs.CallsKeepPromise.{alike, sent-alike, renamed, Upto, upto}
 
 module _ {M : Type 0} (C : Setup M) where
   -- every posted message was in range
@@ -92,7 +92,7 @@ module _ {M : Type 0} (C : Setup M) (xs : List (ChannelAction M)) where
       → channelRefusal (N .mail) (C .cards) (state ys) (numbering (length (posted C ys)) x) ≡ 0
   not-refused x ys s d =
       let u = upto C xs ys (suf-tail s) in
-      sym (channelRefusal-map (letter C (posted C xs)) (N .mail) (C .mail) (alike C xs) (C .cards) (state ys) (λ n m e. u .agrees .sent= n m e .0)
+      sym (channelRefusal-map (letter C (posted C xs)) (N .mail) (C .mail) (alike C xs) (C .cards) (state ys) (sent-alike C xs (state ys) (run ys) (u .agrees))
       (numbering (length (posted C ys)) x))
       ∙ ap (channelRefusal (C .mail) (C .cards) (channel-map (letter C (posted C xs)) (state ys))) (renamed C xs x ys s d)
       ∙ ap (λ w. channelRefusal (C .mail) (C .cards) w x) (sym (u .shown))

@@ -14,7 +14,7 @@ use Rattle.channel.specs.State.{Tagged, ChannelState, nth, released, Cha
 use Rattle.channel.specs.Network.{Network}
 use Rattle.channel.specs.Automaton.{Step, mcast, take, join, Mcasts, ChannelExecution}
 use Rattle.channel.specs.Trace.{steps-take, steps-single, steps-deliver, steps}
-use Rattle.channel.specs.Renaming.{channel-map, action-map, Alike}
+use Rattle.channel.specs.Renaming.{channel-map, action-map, Alike, SentAlike}
 use Rattle.channel.specs.Calls.{Posted, Setup, posting, numbering, done, calls, posted, letter, network, numbered, trace, CallsPromise}
 use Rattle.channel.proofs.Counts.{flow, mcast-once}
 use Rattle.channel.proofs.Held.{holds-in}
@@ -83,7 +83,11 @@ module _ {M : Type 0} (C : Setup M) (xs : List (ChannelAction M)) where
   run = trace C P
 
   pub alike : Alike h (N .mail) (C .mail)
-  alike = record { task= = λ k. refl; multi= = λ k. refl; to= = λ k u i. rw u; dest= = λ k. refl }
+  alike = record { task= = λ k. refl; multi= = λ k. refl; dest= = λ k. refl }
+
+  -- what has been broadcast goes to the destinations that it names
+  pub sent-alike : (w : ChannelState ℕ) (E : List (Step ℕ)) → Agrees N w E → SentAlike h (N .mail) (C .mail) w
+  sent-alike w E a n k e i = rw (a .sent= n k e .0)
 
   -- numbers in place of messages: where the run stands
   pub record Upto (p : ChannelState M) (l : List (Posted M)) (w : ChannelState ℕ) (E : List (Step ℕ)) : Type 0 where
@@ -129,7 +133,7 @@ module _ {M : Type 0} (C : Setup M) (xs : List (ChannelAction M)) where
             execution = k .1;
             low = steps-low N (state ys) (run ys) (given ys) (u .low) x;
             shown = ap (λ p. channelStep (C .mail) p x) (u .shown) ∙ ap (channelStep (C .mail) (channel-map h (state ys))) (sym (renamed x ys s d))
-                ∙ channelStep-map h (N .mail) (C .mail) alike (state ys) (λ n m e. u .agrees .sent= n m e .0) (numbering (length (given ys)) x);
+                ∙ channelStep-map h (N .mail) (C .mail) alike (state ys) (sent-alike (state ys) (run ys) (u .agrees)) (numbering (length (given ys)) x);
           }
 
   pub upto : (ys : List (ChannelAction M)) → Suf ys xs → Upto (plain ys) (given ys) (state ys) (run ys)

@@ -14,7 +14,7 @@ use Rattle.channel.specs.Network.{Network}
 use Rattle.channel.specs.Automaton.{Step, Mcasts, Takes, Receives, Chan, ChannelExecution}
 use Rattle.channel.proofs.InboxHistory.{log, gone, queue, gone-receives}
 use Rattle.channel.proofs.Joining.{takes-log, joins-log}
-use Rattle.channel.proofs.Sent.{passed, number-one}
+use Rattle.channel.proofs.Integrity.{passed, number-one}
 use Rattle.channel.proofs.Rank.{only-dest}
 use Rattle.channel.proofs.Agreement.{Agrees}
 use Rattle.channel.proofs.NothingLost.{OnWay, flying, held, joined, Safe}

@@ -1,14 +1,14 @@
 -- The only card of a set that has one.
-use Prim.Native.Nat.{ℕ, _<_, _≤_, _^_}
+use Prim.Native.Nat.{ℕ, _<_, _≤_, _/_, _^_}
 use mathlib.Core.Path.{_≡_, refl}
 use mathlib.Core.Logic.{_≢_}
 use mathlib.Core.Bool.{Bool, true, false, cond, _&&_}
-use native.Mathlib.Nat.{pow-le-pow-right}
+use native.Mathlib.Nat.{pow-le-pow-right, div-eq-of-lt}
 use native.Mathlib.Decide.{decLt}
 use native.Mathlib.Omega.{arith}
 use borrow.Author.Tests.{leb-true, ne-eqb}
 use lib.Dec.{eqb, leb}
-use Rattle.lists.specs.Tests.{and-fst, and-snd}
+use Rattle.lists.specs.Tests.{clash, and-fst, and-snd}
 use Rattle.lists.specs.Loops.{turns, total}
 use Rattle.lists.specs.Every.{each, each-at}
 use Rattle.names.specs.CardSet.{memberOf, sizeOf}
@@ -53,3 +53,15 @@ all-some-right = refl
 pub single-of : (to : ℕ) → to < 256 → 1 ≤ to → several to ≡ false → single to ≡ true
 unfolding some-right
 single-of to h p e = let n : to ≢ 0 = omega arith in rw (e, ne-eqb to 0 n) at (each-at 256 some-right all-some-right to h)
+
+-- a card of a set of present cards is present
+pub member-present : (to n j : ℕ) → to < 2 ^ n → memberOf to j ≡ true → j < n
+unfolding memberOf
+member-present to n j h e = go (decLt j n)
+  where
+    go : Dec (j < n) → j < n
+    go (yes p) = p
+    go (no q) =
+        let b : 2 ^ n ≤ 2 ^ j = pow-le-pow-right (omega arith) (omega arith) in
+        let z : to / (2 ^ j) ≡ 0 = div-eq-of-lt (omega arith) in
+        absurd (clash (rw z at e) refl)

@@ -13,7 +13,7 @@ use Rattle.channel.specs.Automaton.{Step, Mcasts, Receives, ChannelExecu
 use Rattle.channel.specs.TotalOrder.{epoch, bound, limit, rank}
 use Rattle.channel.proofs.Counts.{mcast-one, receive-one}
 use Rattle.channel.proofs.Times.{received?, epoch-number}
-use Rattle.channel.proofs.Sent.{number-one}
+use Rattle.channel.proofs.Integrity.{number-one}
 use Rattle.channel.proofs.Rank.{time-low, taken-limit, rank-broadcast, rank-received, rank-unreceived, epoch-low}
 
 module _ {M : Type 0} (N : Network M) (E : List (Step M)) (v : ChannelExecution N E) where

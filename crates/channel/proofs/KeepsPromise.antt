@@ -9,8 +9,9 @@ use Rattle.channel.specs.Mail.{Mail}
 use Rattle.channel.specs.Network.{Network}
 use Rattle.channel.specs.Automaton.{Step, mcast, take, join, receive, rest, Mcasts, Receives, ChannelExecution, external}
 use Rattle.channel.specs.TotalOrder.{rank}
-use Rattle.channel.proofs.Sent.{was-sent, received-once}
-use Rattle.channel.proofs.PromiseParts.{received-before, sent-above}
+use Rattle.channel.proofs.Integrity.{was-sent, received-once}
+use Rattle.channel.proofs.ReceiveConsistency.{received-before}
+use Rattle.channel.proofs.ContextSafety.{sent-above}
 use Rattle.channel.proofs.Distinct.{form, one-rank}
 
 module _ {M : Type 0} (N : Network M) where

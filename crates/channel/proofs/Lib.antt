@@ -29,9 +29,10 @@ pub mod InboxHistory
 pub mod Joining
 pub mod Times
 pub mod InboxOrder
-pub mod Sent
+pub mod Integrity
 pub mod Rank
-pub mod PromiseParts
+pub mod ReceiveConsistency
+pub mod ContextSafety
 pub mod Distinct
 pub mod KeepsPromise
 -- The order T, the paper's wording, and what the promise refuses
@@ -64,3 +65,10 @@ pub mod CallsEpoch
 pub mod CallLaws
 pub mod RunLaw
 pub mod CallsComplete
+-- What the refusals say
+pub mod RefusalsMean
+-- Blocks of words, and the queues that they show
+-- What each operation does to the memory is what it does to the idealised state
+-- Each operation keeps the memory well sized
+-- Any list of calls on a memory
+pub mod ChannelLaw

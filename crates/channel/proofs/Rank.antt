@@ -19,7 +19,7 @@ use Rattle.channel.proofs.InboxHistory.{log, gone, receives-gone, recei
 use Rattle.channel.proofs.Joining.{take-can, Entry, log-entered, taking, joining}
 use Rattle.channel.proofs.Times.{receives-test, receives-tested, taken-at, at-mcast, epoch-number, epoch-joined}
 use Rattle.channel.proofs.InboxOrder.{joinKey, joinKey-number, log-sorted}
-use Rattle.channel.proofs.Sent.{was-sent, received-once}
+use Rattle.channel.proofs.Integrity.{was-sent, received-once}
 
 module _ {M : Type 0} (N : Network M) (E : List (Step M)) (v : ChannelExecution N E) where
   pub time-low : {P : Step M → Type 0} {B : List (Step M)} → At P B E → suc (length B) < bound N E
@@ -97,7 +97,7 @@ module _ {M : Type 0} (N : Network M) (E : List (Step M)) (v : ChannelExecution 
       let z = enc-le (bound N E) (epoch N E m) (g .sub) ((chan N B) .taken i) (suc (length B)) (epoch-low x) (g .soon) in
       omega arith
 
-  -- a card receives in the order of the ranks (Lemma 6.8)
+  -- a card receives in the order of the ranks (000 Lemma 6.8)
   pub receive-order : {m n : M} {i : ℕ} {B C : List (Step M)} → At (Receives m i) B C → At (Receives n i) C E → rank N E m < rank N E n
   receive-order {m} {n} {i} {B} {C} x y = go (N .mail .multi n) refl
     where

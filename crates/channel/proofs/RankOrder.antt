@@ -50,7 +50,7 @@ module _ {M : Type 0} (N : Network M) (E : List (Step M)) (v : ChannelExecution 
       let z = enc-time (bound N E) (epoch N E m) (suc (length B)) (epoch N E n) (suc (length C)) (omega arith) (omega arith) in
       omega arith
 
-  -- two singles of different epochs (Lemma 6.3)
+  -- two singles of different epochs (000 Lemma 6.3)
   pub single-epochs : {m n : M} {i j : ℕ} {B C : List (Step M)} → N .mail .multi m ≡ false → N .mail .multi n ≡ false
       → At (Receives m i) B E → At (Receives n j) C E → epoch N E m < epoch N E n → rank N E m < rank N E n
   single-epochs {m} {n} {B = B} {C} u w x y h =

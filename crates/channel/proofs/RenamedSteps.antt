@@ -9,12 +9,8 @@ use Rattle.lists.specs.Queues.{push}
 use Rattle.lists.specs.Maps.{map-push, map-pop}
 use Rattle.channel.specs.Mail.{Mail}
 use Rattle.channel.specs.State.{Tagged, ChannelState, nth, released, kept, ChannelAction, dispatch, takeBroadcast, takeSingle, deliver, dispatching, taking, landing, arriving, delivering, channelStep}
-use Rattle.channel.specs.Renaming.{tag-map, channel-map, action-map, Alike}
+use Rattle.channel.specs.Renaming.{tag-map, channel-map, action-map, Alike, SentAlike}
 use Rattle.channel.proofs.RenamedLists.{nth-map, released-map, kept-map}
-
--- what has been broadcast has more than one destination
-abbrev pub Broadcasts : {M : Type 0} → Mail M → ChannelState M → Type 0
-Broadcasts {M} a w = (n : ℕ) (m : M) → nth (w .sent) n ≡ some m → a .multi m ≡ true
 
 module _ {M N : Type 0} (h : M → N) (a : Mail M) (b : Mail N) (r : Alike h a b) where
   dispatching-map : (t : Bool) (w : ChannelState M) (i : ℕ) (m : M)
@@ -40,7 +36,7 @@ module _ {M N : Type 0} (h : M → N) (a : Mail M) (b : Mail N) (r : Alike h a b
       fly c true = refl
       fly c false = refl
 
-  taking-map : (w : ChannelState M) (i : ℕ) (o : Option M) → ((m : M) → o ≡ some m → a .multi m ≡ true)
+  taking-map : (w : ChannelState M) (i : ℕ) (o : Option M) → ((m : M) → o ≡ some m → b .to (h m) i ≡ a .to m i)
       → taking b (channel-map h w) i (Option·map h o) ≡ channel-map h (taking a w i o)
   taking-map w i none u = refl
   taking-map w i (some m) u = λ z. record {
@@ -49,7 +45,7 @@ module _ {M N : Type 0} (h : M → N) (a : Mail M) (b : Mail N) (r : Alike h a b
     flight = λ c. Option·map (tag-map h) (w .flight c);
     held = λ j. keeping (eqb j i) j z;
     inbox = λ j. (ap (λ s. cond (eqb j i) (push s (h m) (map h (w .inbox j)) ++ released n (map (tag-map h) (w .held j))) (map h (w .inbox j)))
-        (r .to= m (u m refl) i)
+        (u m refl)
         ∙ joining (eqb j i) (a .to m i) j) z;
   }
     where
@@ -110,10 +106,10 @@ module _ {M N : Type 0} (h : M → N) (a : Mail M) (b : Mail N) (r : Alike h a b
     inbox = λ j. sym (map-pop h (eqb j i) (w .inbox j)) z;
   }
 
-  pub channelStep-map : (w : ChannelState M) → Broadcasts a w → (x : ChannelAction M)
+  pub channelStep-map : (w : ChannelState M) → SentAlike h a b w → (x : ChannelAction M)
       → channelStep b (channel-map h w) (action-map h x) ≡ channel-map h (channelStep a w x)
   channelStep-map w u (dispatch i m) = ap (λ t. dispatching b t (channel-map h w) i (h m)) (r .multi= m) ∙ dispatching-map (a .multi m) w i m
   channelStep-map w u (takeBroadcast i) =
-      ap (taking b (channel-map h w) i) (nth-map h (w .sent) (w .taken i)) ∙ taking-map w i (nth (w .sent) (w .taken i)) (λ m e. u (w .taken i) m e)
+      ap (taking b (channel-map h w) i) (nth-map h (w .sent) (w .taken i)) ∙ taking-map w i (nth (w .sent) (w .taken i)) (λ m e. u (w .taken i) m e i)
   channelStep-map w u (takeSingle c) = arriving-map w c (w .flight c)
   channelStep-map w u (deliver i) = delivering-map w i

@@ -1,25 +1,36 @@
 -- The memory of a channel after any list of calls from its beginning shows the idealised channel after the same calls.
-use Prim.Native.Nat.{ℕ}
+use Prim.Native.Nat.{ℕ, _<_}
 use mathlib.Core.Path.{_≡_, refl, sym, ap, ap₂, _∙_}
-use mathlib.Core.Bool.{true, cond}
+use mathlib.Core.Bool.{Bool, true, false, cond}
 use mathlib.Core.List.{List, [], _∷_, map}
 use lib.Dec.{eqb, ltb}
 use lib.ListN.{length}
 use Rattle.channel.specs.declared.Letter.{Letter}
 use Rattle.channel.specs.declared.Received.the-variants.{NoSuchCard}
 use Rattle.channel.specs.State.{ChannelState, ChannelAction, dispatch, takeBroadcast, takeSingle, deliver, channelStep}
-use Rattle.channel.specs.Begin.{sizesFit, begun}
 use Rattle.channel.specs.Sized.{wellSized}
 use Rattle.channel.specs.Shows.{letterMail, Shows}
 use Rattle.channel.specs.Calls.{done, calls}
-use Rattle.channel.specs.MemoryCalls.{Call, callNumber, callMemory, memoryAfter, answersAfter, actionOf, handedUp, callRefusal, letters, refusalsAfter, SameSizes, RunFollows}
+use Rattle.channel.specs.MemoryCalls.{Call, callNumber, callMemory, memoryAfter, answersAfter, actionOf, handedUp, absent, unfit, callRefusal, letters, refusalsAfter, SameSizes, RunFollows}
 use Rattle.channel.proofs.Receiving.{receive-answer}
-use Rattle.channel.proofs.Fitting.{fit-of, of-fit, same-cards, same-tasks, fits-same}
+use Rattle.channel.proofs.Fitting.{fit-of, same-cards, same-tasks, fits-same}
 use Rattle.channel.proofs.FitRelease.{sizes-trans}
 use Rattle.channel.proofs.FitSized.{sized-of}
-use Rattle.channel.proofs.BeginLaw.{begun-long, begun-shows, begun-fit}
 use Rattle.channel.proofs.CallLaws.{refused-is, call-follows}
 use Rattle.channel.proofs.CallsKeepPromise.{calls-promise}
+use Rattle.channel.proofs.CallsEvents.{calls-events}
+use Rattle.channel.proofs.CallsComplete.{calls-complete}
+use Rattle.channel.proofs.Destinations.{sole-present, single-of, member-present}
+use Rattle.channel.proofs.FitMoves.{fits-to, fits-small}
+use Rattle.channel.proofs.SizedDispatch.{fits-some}
+use Rattle.channel.specs.AtRest.{GoesToCards}
+use Rattle.channel.specs.Letters.{several, soleOf, fits}
+use Rattle.channel.specs.Refusals.{otherwise}
+use Rattle.names.specs.CardSet.{memberOf}
+use Rattle.lists.specs.Tests.{clash, and-snd}
+use borrow.Author.Tests.{eqb-true}
+use native.Mathlib.Omega.{arith}
+use Rattle.channel.specs.Layout.{cardsOf}
 
 -- refusals look at nothing of a memory but its sizes
 refusal-sizes : (us ms : List ℕ) → SameSizes us ms → (w : ChannelState Letter) (x : ChannelAction Letter) → callRefusal us w x ≡ callRefusal ms w x
@@ -31,6 +42,25 @@ refusal-sizes us ms s w (deliver i) = rw (same-cards us ms s)
 
 done-sizes : (us ms : List ℕ) → SameSizes us ms → (w : ChannelState Letter) (x : ChannelAction Letter) → done (letters us) w x ≡ done (letters ms) w x
 done-sizes us ms s w x = refused-is us w x ∙ ap (λ r. eqb r 0) (refusal-sizes us ms s w x) ∙ sym (refused-is ms w x)
+
+-- a letter in range goes to present cards
+to-cards : (ms : List ℕ) → GoesToCards (letters ms)
+to-cards ms i l r j g = go (several (l .to)) refl g
+  where
+    f : fits ms l ≡ true
+    f = sixes (fits ms l) (and-snd (eqb (absent ms (dispatch i l)) 0) (eqb (unfit ms (dispatch i l)) 0) r)
+      where
+        sixes : (b : Bool) → eqb (otherwise 6 b) 0 ≡ true → b ≡ true
+        sixes true e = refl
+        sixes false e = absurd (clash e refl)
+
+    go : (b : Bool) → several (l .to) ≡ b → cond b (memberOf (l .to) j) (eqb j (soleOf (l .to))) ≡ true → j < cardsOf ms
+    go true e h = member-present (l .to) (cardsOf ms) j (fits-to ms l f) h
+    go false e h =
+        let s = fits-small ms l f in
+        let p = sole-present (l .to) s (single-of (l .to) s (fits-some ms l f) e) (cardsOf ms) (fits-to ms l f) in
+        let q = eqb-true j (soleOf (l .to)) h in
+        omega arith
 
 -- where the run stands
 record Upto (ms us : List ℕ) (w : ChannelState Letter) : Type 0 where
@@ -88,10 +118,7 @@ module _ (ms : List ℕ) (long : length ms ≡ 4808) (ok : wellSized ms ≡ true
             receive-answer (memoryAfter ms cs) (calls (letters ms) (map actionOf cs)) (sized-of (memoryAfter ms cs) (u .long) (fit-of (memoryAfter ms cs) (u .sized))) (u .shows) card
             ∙ ap (λ n. cond (ltb (card .0) n) (handedUp ((calls (letters ms) (map actionOf cs)) .inbox (card .0))) NoSuchCard) (same-cards (memoryAfter ms cs) ms (u .sizes));
         promise = calls-promise (letters ms) (map actionOf cs);
+        events = calls-events (letters ms) (map actionOf cs);
+        complete = calls-complete (letters ms) (map actionOf cs);
+        to-cards = to-cards ms;
       }
-
--- from `begin` of accepted sizes
-pub begun-follows : (cards tasks registers : ℕ) → sizesFit cards tasks registers ≡ true → (cs : List Call) → RunFollows (begun cards tasks registers) cs
-begun-follows cards tasks registers ok =
-    run-follows (begun cards tasks registers) (begun-long cards tasks registers ok)
-    (of-fit (begun cards tasks registers) (begun-fit cards tasks registers ok)) (begun-shows cards tasks registers ok)

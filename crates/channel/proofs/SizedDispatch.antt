@@ -39,7 +39,7 @@ or-intro true e = refl
 or-intro false e = e
 
 -- a letter that fits goes to somebody
-fits-some : (ws : List ℕ) (l : Letter) → fits ws l ≡ true → 1 ≤ l .to
+pub fits-some : (ws : List ℕ) (l : Letter) → fits ws l ≡ true → 1 ≤ l .to
 unfolding fits addressed
 fits-some ws l f =
     let u = and-five (ltb (l .message .task .0) (tasksOf ws)) (ltb (l .message .register .0) (registersOf ws)) (known (l .message .body)) (ltb (l .from .0) (cardsOf ws))

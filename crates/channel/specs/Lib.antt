@@ -5,16 +5,7 @@ pub mod ContextMulticast
 pub mod Mail
 pub mod State
 pub mod Refusals
-pub mod Layout
-pub mod Letters
-pub mod Answers
-pub mod Begin
-pub mod Inbox
-pub mod TakeBroadcast
-pub mod TakeSingle
-pub mod Dispatch
-pub mod Sized
-pub mod Shows
+pub mod RefusalMeanings
 pub mod Renaming
 -- 000 §6: the automaton, the order T, and the steps that an operation is
 pub mod Network
@@ -25,4 +16,18 @@ pub mod Trace
 pub mod Calls
 pub mod AtRest
 pub mod Examples
+-- The lent memory: where things lie, and what each function does to the words
+pub mod Layout
+pub mod Letters
+pub mod Answers
+pub mod Begin
+pub mod Inbox
+pub mod TakeBroadcast
+pub mod TakeSingle
+pub mod Dispatch
+pub mod Sized
+-- What a memory shows of the idealised state, and what is claimed of any list of calls on it
+pub mod Shows
+-- 000 §6: the automaton, the order T, and the steps that an operation is
+-- Any list of calls: what is claimed of it
 pub mod MemoryCalls

@@ -3,7 +3,7 @@
 use Prim.Native.Nat.{ℕ}
 use mathlib.Core.Path.{_≡_}
 use mathlib.Core.Logic.{_≢_}
-use mathlib.Core.Bool.{true, cond, _&&_}
+use mathlib.Core.Bool.{true, false, cond, _&&_}
 use mathlib.Core.List.{List, [], _∷_, map}
 use lib.Dec.{eqb, ltb}
 use lib.ListN.{length, getD}
@@ -13,18 +13,20 @@ use Rattle.names.specs.declared.Message.{Message}
 use Rattle.channel.specs.declared.Letter.{Letter}
 use Rattle.channel.specs.declared.Received.{Received}
 use Rattle.channel.specs.declared.Received.the-variants.{Got, NoSuchCard, Empty}
-use Rattle.channel.specs.State.{ChannelState, ChannelAction, dispatch, takeBroadcast, takeSingle, deliver, channelStep}
+use Rattle.channel.specs.State.{ChannelState, initialChannel, ChannelAction, dispatch, takeBroadcast, takeSingle, deliver, channelStep}
 use Rattle.channel.specs.Refusals.{otherwise, channelRefusal}
-use Rattle.channel.specs.Layout.{cardsWord, tasksWord, registersWord, cardsOf, tasksOf}
+use Rattle.channel.specs.Layout.{cardsWord, tasksWord, registersWord, cardsOf, tasksOf, registersOf}
 use Rattle.channel.specs.Letters.{letterAt, fits}
 use Rattle.channel.specs.Answers.{answerNumber, receivedNumber}
+use Rattle.channel.specs.Begin.{sizesFit, beginAnswer, beginMemory}
 use Rattle.channel.specs.Inbox.{receiveAnswer, receiveMemory}
 use Rattle.channel.specs.TakeBroadcast.{takeAnswer, takeMemory}
 use Rattle.channel.specs.TakeSingle.{singleAnswer, singleMemory}
 use Rattle.channel.specs.Dispatch.{letterOf, dispatchAnswer, dispatchMemory}
 use Rattle.channel.specs.Sized.{wellSized}
 use Rattle.channel.specs.Shows.{letterMail, Shows}
-use Rattle.channel.specs.Calls.{Setup, done, calls, CallsPromise}
+use Rattle.channel.specs.Calls.{Setup, done, calls, CallsPromise, CallsEvents}
+use Rattle.channel.specs.AtRest.{GoesToCards, CallsComplete}
 
 pub data Call : Type 0 where
   dispatchCall : Card → Message → ℕ → Call  -- sending card, message, destinations
@@ -123,13 +125,28 @@ pub record CallFollows (ws : List ℕ) (w : ChannelState Letter) (c : Call) : Ty
   pub sizes : SameSizes (callMemory ws c) ws
   pub untouched : callNumber ws c ≢ 0 → callMemory ws c ≡ ws
 
--- Any list of calls, refused ones included, from a memory ms that is just begun. `promise` is what 000 §4 states of a context multicast
--- channel; `hands`: what a receive would hand up now is the message of the inbox's head.
+-- `begin` on any memory.
+pub record BeginFollows (ws : List ℕ) (cards tasks registers : ℕ) : Type 0 where
+  pub number : answerNumber (beginAnswer cards tasks registers) ≡ otherwise 3 (sizesFit cards tasks registers)
+  pub untouched : sizesFit cards tasks registers ≡ false → beginMemory ws cards tasks registers ≡ ws
+  pub sizes : sizesFit cards tasks registers ≡ true
+      → (cardsOf (beginMemory ws cards tasks registers) ≡ cards) × (tasksOf (beginMemory ws cards tasks registers) ≡ tasks)
+      × (registersOf (beginMemory ws cards tasks registers) ≡ registers)
+  pub shows : sizesFit cards tasks registers ≡ true → Shows (beginMemory ws cards tasks registers) initialChannel
+
+-- Any list of calls, refused ones included, from a memory ms that is just begun. `hands`: what a receive would hand up now is the message of
+-- the inbox's head. `promise`, `events`, `complete`: what 000 §4 states of a context multicast channel holds of the calls' multicasts and
+-- receives, and if the channel is at rest the run is complete in the paper's sense.
 pub record RunFollows (ms : List ℕ) (cs : List Call) : Type 0 where
   pub sized : wellSized (memoryAfter ms cs) ≡ true
   pub long : length (memoryAfter ms cs) ≡ 4808
   pub sizes : SameSizes (memoryAfter ms cs) ms
   pub shows : Shows (memoryAfter ms cs) (calls (letters ms) (map actionOf cs))
   pub answers : answersAfter ms cs ≡ refusalsAfter ms (map actionOf cs)
-  pub hands : (card : Card) → receiveAnswer (memoryAfter ms cs) card ≡ cond (ltb (card .0) (cardsOf ms)) (handedUp ((calls (letters ms) (map actionOf cs)) .inbox (card .0))) NoSuchCard
+  pub hands : (card : Card)
+      → receiveAnswer (memoryAfter ms cs) card
+      ≡ cond (ltb (card .0) (cardsOf ms)) (handedUp ((calls (letters ms) (map actionOf cs)) .inbox (card .0))) NoSuchCard
   pub promise : CallsPromise (letters ms) (map actionOf cs)
+  pub events : CallsEvents (letters ms) (map actionOf cs)
+  pub complete : CallsComplete (letters ms) (map actionOf cs)
+  pub to-cards : GoesToCards (letters ms)

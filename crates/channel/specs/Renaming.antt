@@ -1,11 +1,10 @@
 -- The same channel with its messages under other names.
 use mathlib.Core.Path.{_≡_}
-use mathlib.Core.Bool.{true}
 use mathlib.Core.List.{map}
-use mathlib.Core.Option.{Option·map}
+use mathlib.Core.Option.{some, Option·map}
 use Prim.Native.Nat.{ℕ}
 use Rattle.channel.specs.Mail.{Mail}
-use Rattle.channel.specs.State.{Tagged, ChannelState, ChannelAction, dispatch, takeBroadcast, takeSingle, deliver}
+use Rattle.channel.specs.State.{Tagged, ChannelState, nth, ChannelAction, dispatch, takeBroadcast, takeSingle, deliver}
 
 module _ {M N : Type 0} (h : M → N) where
   abbrev pub tag-map : Tagged M → Tagged N
@@ -26,9 +25,12 @@ module _ {M N : Type 0} (h : M → N) where
   action-map (takeSingle c) = takeSingle c
   action-map (deliver i) = deliver i
 
-  -- The channel reads off h m what it reads off m. Who is a destination it asks of broadcasts only.
+  -- the channel reads off h m what it reads off m
   pub record Alike (a : Mail M) (b : Mail N) : Type 0 where
     pub task= : (m : M) → b .task (h m) ≡ a .task m
     pub multi= : (m : M) → b .multi (h m) ≡ a .multi m
-    pub to= : (m : M) → a .multi m ≡ true → (i : ℕ) → b .to (h m) i ≡ a .to m i
     pub dest= : (m : M) → b .dest (h m) ≡ a .dest m
+
+  -- and has broadcast to the same cards; of another message it never asks who is a destination
+  abbrev pub SentAlike : Mail M → Mail N → ChannelState M → Type 0
+  SentAlike a b w = (n : ℕ) (m : M) → nth (w .sent) n ≡ some m → (i : ℕ) → b .to (h m) i ≡ a .to m i

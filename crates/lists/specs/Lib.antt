@@ -1,4 +1,5 @@
 pub mod Tests
+pub mod Conjunctions
 pub mod Every
 pub mod Loops
 pub mod Parts
@@ -12,4 +13,3 @@ pub mod Maps
 pub mod Keys
 pub mod Sorting
 pub mod Counts
-pub mod Conjunctions
