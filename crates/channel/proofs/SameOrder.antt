@@ -1,7 +1,6 @@
 -- The rank is 000 §6.2's order T: of messages that have their place, (m, n) ∈ T exactly if rank m < rank n.
 use mathlib.Core.Path.{_≡_, refl, sym, ap, _∙_}
 use mathlib.Core.Logic.{_⊎_, inl, inr}
-use mathlib.Core.Bool.{true}
 use mathlib.Core.List.{List}
 use Prim.Native.Nat.{ℕ, zero, suc, _≤_, _<_}
 use native.Mathlib.Decide.{decLe, decLt}
@@ -11,7 +10,7 @@ use Rattle.lists.specs.Keys.{Tri, less, alike, more, tri}
 use Rattle.channel.specs.Mail.{Mail}
 use Rattle.channel.specs.Network.{Network}
 use Rattle.channel.specs.Automaton.{Step, Receives, ChannelExecution}
-use Rattle.channel.specs.TotalOrder.{epoch, T, rank, Placed, broadcast, received}
+use Rattle.channel.specs.TotalOrder.{epoch, Multi, T, rank, Placed}
 use Rattle.channel.specs.TotalOrder as O
 use Rattle.channel.proofs.Counts.{receive-one}
 use Rattle.channel.proofs.Times.{epoch-number}
@@ -21,39 +20,39 @@ use Rattle.channel.proofs.RankOrder.{multi-multi, multi-single, single-
 
 module _ {M : Type 0} (N : Network M) (E : List (Step M)) (v : ChannelExecution N E) where
   pub T-below : {m n : M} → T N E m n → rank N E m < rank N E n
-  T-below (O.multi-multi u w h) = multi-multi N E v u w h
-  T-below (O.multi-single u w h) = multi-single N E v u (w .0) (any-at (w .1) .1) h
-  T-below (O.single-multi u w h) = single-multi N E v (u .0) (any-at (u .1) .1) w h
+  T-below (O.multi-multi u w h) = multi-multi N E v (u .0) (w .0) h
+  T-below (O.multi-single u w h) = multi-single N E v (u .0) (w .0) (any-at (w .1) .1) h
+  T-below (O.single-multi u w h) = single-multi N E v (u .0) (any-at (u .1) .1) (w .0) h
   T-below (O.single-single u w e B y x) = single-single N E v (u .0) (w .0) (any-at x .1) y e
   T-below (O.transitive x y) = let a = T-below x in let b = T-below y in omega arith
 
   -- Lemma 6.3's broadcast: an epoch that some card has reached is that of one
   epoch-broadcast : {n : M} (q : ℕ) → Any (Receives n (N .mail .dest n)) E → epoch N E n ≡ suc q
-      → (k : M) × (N .mail .multi k ≡ true) × (epoch N E k ≡ suc q)
+      → (k : M) × Multi N E k × (epoch N E k ≡ suc q)
   epoch-broadcast {n} q h e =
       let x = any-at h in
       let l = epoch-low N E v (x .1) in
       let p = passed N E v (x .0) (N .mail .dest n) q (at-suf (x .1)) (omega arith) in
-      (p .0, p .2, epoch-number N E v (p .2) ∙ p .4)
+      (p .0, (p .2, p .3), epoch-number N E v (p .2) ∙ p .4)
 
   pub below-T : {m n : M} → Placed N E m → Placed N E n → rank N E m < rank N E n → T N E m n
-  below-T {m} {n} (broadcast u x) (broadcast w y) r = go (tri (epoch N E m) (epoch N E n))
+  below-T {m} {n} (inl u) (inl w) r = go (tri (epoch N E m) (epoch N E n))
     where
       go : Tri (epoch N E m) (epoch N E n) → T N E m n
       go (less h) = O.multi-multi u w h
-      go (alike h) = let e = ap (rank N E) (number-one N E v u w x y (sym (epoch-number N E v u) ∙ h ∙ epoch-number N E v w)) in absurd (omega arith)
-      go (more h) = let k = multi-multi N E v w u h in absurd (omega arith)
-  below-T {m} {n} (broadcast u x) (received w) r = go (decLe (epoch N E m) (epoch N E n))
+      go (alike h) = let e = ap (rank N E) (number-one N E v (u .0) (w .0) (u .1) (w .1) (sym (epoch-number N E v (u .0)) ∙ h ∙ epoch-number N E v (w .0))) in absurd (omega arith)
+      go (more h) = let k = multi-multi N E v (w .0) (u .0) h in absurd (omega arith)
+  below-T {m} {n} (inl u) (inr w) r = go (decLe (epoch N E m) (epoch N E n))
     where
       go : Dec (epoch N E m ≤ epoch N E n) → T N E m n
       go (yes h) = O.multi-single u w h
-      go (no h) = let k = single-multi N E v (w .0) (any-at (w .1) .1) u (omega arith) in absurd (omega arith)
-  below-T {m} {n} (received u) (broadcast w y) r = go (decLt (epoch N E m) (epoch N E n))
+      go (no h) = let k = single-multi N E v (w .0) (any-at (w .1) .1) (u .0) (omega arith) in absurd (omega arith)
+  below-T {m} {n} (inr u) (inl w) r = go (decLt (epoch N E m) (epoch N E n))
     where
       go : Dec (epoch N E m < epoch N E n) → T N E m n
       go (yes h) = O.single-multi u w h
-      go (no h) = let k = multi-single N E v w (u .0) (any-at (u .1) .1) (omega arith) in absurd (omega arith)
-  below-T {m} {n} (received u) (received w) r = go (tri (epoch N E m) (epoch N E n))
+      go (no h) = let k = multi-single N E v (w .0) (u .0) (any-at (u .1) .1) (omega arith) in absurd (omega arith)
+  below-T {m} {n} (inr u) (inr w) r = go (tri (epoch N E m) (epoch N E n))
     where
       x : (B : List (Step M)) × At (Receives m (N .mail .dest m)) B E
       x = any-at (u .1)
