@@ -1,5 +1,5 @@
 -- Each call on a well-sized memory does and answers what the idealised channel does and answers.
-use Prim.Native.Nat.{ℕ}
+use Prim.Native.Nat.{ℕ, _+_}
 use mathlib.Core.Path.{_≡_, refl, sym, ap, _∙_}
 use mathlib.Core.Bool.{Bool, true, false, cond, _&&_}
 use mathlib.Core.Logic.{_≢_}
@@ -17,15 +17,15 @@ use Rattle.channel.specs.declared.Answer.the-variants.{NoCard}
 use Rattle.channel.specs.declared.Received.the-variants.{Got, NoSuchCard, Empty}
 use Rattle.channel.specs.State.{ChannelState, ChannelAction, dispatch, takeBroadcast, takeSingle, deliver, channelStep}
 use Rattle.channel.specs.Refusals.{otherwise, channelRefusal}
-use Rattle.channel.specs.Layout.{cardsOf, tasksOf, countOf}
-use Rattle.channel.specs.Letters.{several, fits}
+use Rattle.channel.specs.Layout.{cardsOf, tasksOf, countOf, broadcastBlock, madeOf}
+use Rattle.channel.specs.Letters.{several, fits, letterAt}
 use Rattle.channel.specs.Answers.{answerNumber, receivedNumber, isDone}
 use Rattle.channel.specs.Inbox.{gotOf, popped, receiveAnswer, receiveMemory}
 use Rattle.channel.specs.TakeBroadcast.{takeAnswer, takeMemory}
 use Rattle.channel.specs.TakeSingle.{singleAnswer, singleMemory}
 use Rattle.channel.specs.Dispatch.{castAnswer, castMemory, flyAnswer, flyMemory, letterOf, dispatchAnswer, dispatchMemory}
 use Rattle.channel.specs.Sized.{wellSized}
-use Rattle.channel.specs.Shows.{letterMail, Shows}
+use Rattle.channel.specs.Shows.{letterMail, Shows, stateOf}
 use Rattle.channel.specs.Calls.{done}
 use Rattle.channel.specs.MemoryCalls.{Call, dispatchCall, takeBroadcastCall, takeSingleCall, receiveCall, callNumber, callMemory, actionOf, orElse, absent, unfit, callRefusal, letters, CallFollows}
 use Rattle.channel.proofs.Facts.{Sized}
@@ -40,6 +40,8 @@ use Rattle.channel.proofs.SizedReceive.{receive-keeps}
 use Rattle.channel.proofs.SizedTakeBroadcast.{take-keeps}
 use Rattle.channel.proofs.SizedTakeSingle.{single-keeps}
 use Rattle.channel.proofs.SizedDispatch.{dispatch-keeps}
+use Rattle.channel.proofs.Places.{nth-listing}
+use Rattle.lists.specs.Listings.{listing-length}
 
 -- ---- refusals
 
@@ -196,3 +198,19 @@ module _ (ws : List ℕ) (w : ChannelState Letter) (long : length ws ≡ 4808) (
   call-follows (takeBroadcastCall card) = take-follows card
   call-follows (takeSingleCall task) = single-follows task
   call-follows (receiveCall card) = receive-follows card
+
+-- every memory shows a state
+pub shows-state : (ws : List ℕ) → Shows ws (stateOf ws)
+unfolding stateOf
+shows-state ws = record {
+  made= = listing-length _ (madeOf ws);
+  sent= = λ n p q. nth-listing (λ k. letterAt ws (broadcastBlock (k + 1))) (madeOf ws) n p;
+  taken= = λ i c. refl;
+  flight= = λ t h. refl;
+  held= = λ i c. refl;
+  inbox= = λ i c. refl;
+}
+
+-- so each call on a well-sized memory follows the idealised channel, whether or not calls ever lead to it
+pub any-follows : (ws : List ℕ) → length ws ≡ 4808 → wellSized ws ≡ true → (c : Call) → CallFollows ws (stateOf ws) c
+any-follows ws long ok c = call-follows ws (stateOf ws) long ok (shows-state ws) c

@@ -39,6 +39,7 @@ pub mod CallsEvents
 pub mod CallsEpoch
 pub mod CallsComplete
 -- What the refusals say
+pub mod Places
 pub mod RefusalsMean
 -- Blocks of words, and the queues that they show
 pub mod Blocks

@@ -4,7 +4,7 @@ use mathlib.Core.Logic.{_≢_}
 use mathlib.Core.Bool.{Bool, true, false, cond, _&&_}
 use mathlib.Core.List.{List, [], _∷_, _++_}
 use mathlib.Core.Option.{Option, none, some}
-use Prim.Native.Nat.{ℕ, zero, suc, _+_, _<_, _≤_}
+use Prim.Native.Nat.{ℕ, suc, _+_, _<_, _≤_}
 use native.Mathlib.Omega.{arith}
 use borrow.Author.Tests.{leb-true, leb-false, le-leb, lt-leb}
 use lib.Dec.{leb, ltb}
@@ -17,20 +17,11 @@ use Rattle.channel.specs.Mail.{Mail}
 use Rattle.channel.specs.State.{Tagged, ChannelState, nth, released}
 use Rattle.channel.specs.Refusals.{otherwise, broadcastRefusal, flightRefusal, takeRefusal, singleRefusal, receiveRefusal, channelRefusal}
 use Rattle.channel.specs.RefusalMeanings.{RefusalMeanings}
+use Rattle.channel.proofs.Places.{nth-none, nth-past}
 
 other-six : (b : Bool) (n : ℕ) → n ≢ 0 → n ≢ 6 → otherwise 6 b ≢ n
 other-six true n p q e = p (sym e)
 other-six false n p q e = q (sym e)
-
-nth-none : {M : Type 0} (s : List M) (k : ℕ) → nth s k ≡ none → length s ≤ k
-nth-none [] k e = omega arith
-nth-none (a ∷ s) zero e = let z : _≡_ {A = ℕ} 0 1 = cc in absurd (omega arith)
-nth-none (a ∷ s) (suc k) e = let h = nth-none s k e in omega arith
-
-nth-out : {M : Type 0} (s : List M) (k : ℕ) → length s ≤ k → nth s k ≡ none
-nth-out [] k h = refl
-nth-out (a ∷ s) zero h = absurd (omega arith)
-nth-out (a ∷ s) (suc k) h = nth-out s k (omega arith)
 
 module _ {M : Type 0} (mail : Mail M) (cards : ℕ) (w : ChannelState M) where
   -- whether what joins the inbox has room there
@@ -87,7 +78,7 @@ module _ {M : Type 0} (mail : Mail M) (cards : ℕ) (w : ChannelState M) where
   pub refusals-mean : RefusalMeanings mail cards w
   unfolding channelRefusal near
   refusals-mean = record {
-    none-to-take = λ i. ((λ e. nth-none (w .sent) (w .taken i) (take-31 i _ e)), (λ h. rw (nth-out (w .sent) (w .taken i) h)));
+    none-to-take = λ i. ((λ e. nth-none (w .sent) (w .taken i) (take-31 i _ e)), (λ h. rw (nth-past (w .sent) (w .taken i) h)));
     none-in-flight = λ t. ((λ e. single-32 (w .flight t) e), (λ h. rw h));
     inbox-empty = λ i. ((λ e. receive-33 (w .inbox i) e), (λ h. rw h));
     far-behind = λ i m. ((λ e. dispatch-34 (mail .multi m) m e), (λ h. rw (h .0, each-fails cards near (h .1) (h .2) (lt-leb (suc (length (w .sent))) (w .taken (h .1) + 64) (h .3)))));
