@@ -109,20 +109,26 @@ module _ (ws : List ℕ) (w : ChannelState Letter) (long : length ws ≡ 4808) (
       → Shows us (cond (done (letters ws) w x) (channelStep letterMail w x) w)
   reads us x r e s = rw (refused-is ws w x, ← e) s
 
-  dispatch-refusal : (card : Card) (m : Message) (to : ℕ) → cond (ltb (card .0) (cardsOf ws)) (orElse (channelRefusal letterMail (cardsOf ws) w (dispatch (card .0) (letterOf card m to))) (otherwise 6 (fits ws (letterOf card m to)))) 14
+  dispatch-refusal : (card : Card) (m : Message) (to : ℕ)
+      → cond (ltb (card .0) (cardsOf ws))
+      (orElse (channelRefusal letterMail (cardsOf ws) w (dispatch (card .0) (letterOf card m to))) (otherwise 6 (fits ws (letterOf card m to)))) 14
       ≡ callRefusal ws w (actionOf (dispatchCall card m to))
   unfolding callRefusal
   dispatch-refusal card m to = present (ltb (card .0) (cardsOf ws)) _ 14 (omega arith)
 
-  take-refusal : (card : Card) → cond (ltb (card .0) (cardsOf ws)) (channelRefusal letterMail (cardsOf ws) w (takeBroadcast (card .0))) 14 ≡ callRefusal ws w (actionOf (takeBroadcastCall card))
+  take-refusal : (card : Card)
+      → cond (ltb (card .0) (cardsOf ws)) (channelRefusal letterMail (cardsOf ws) w (takeBroadcast (card .0))) 14
+      ≡ callRefusal ws w (actionOf (takeBroadcastCall card))
   unfolding callRefusal
   take-refusal card = ap (λ r. cond (ltb (card .0) (cardsOf ws)) r 14) (fine _) ∙ present (ltb (card .0) (cardsOf ws)) _ 14 (omega arith)
 
-  single-refusal : (task : Task) → cond (ltb (task .0) (tasksOf ws)) (channelRefusal letterMail (cardsOf ws) w (takeSingle (task .0))) 12 ≡ callRefusal ws w (actionOf (takeSingleCall task))
+  single-refusal : (task : Task)
+      → cond (ltb (task .0) (tasksOf ws)) (channelRefusal letterMail (cardsOf ws) w (takeSingle (task .0))) 12 ≡ callRefusal ws w (actionOf (takeSingleCall task))
   unfolding callRefusal
   single-refusal task = ap (λ r. cond (ltb (task .0) (tasksOf ws)) r 12) (fine _) ∙ present (ltb (task .0) (tasksOf ws)) _ 12 (omega arith)
 
-  receive-refusal : (card : Card) → cond (ltb (card .0) (cardsOf ws)) (channelRefusal letterMail (cardsOf ws) w (deliver (card .0))) 14 ≡ callRefusal ws w (actionOf (receiveCall card))
+  receive-refusal : (card : Card)
+      → cond (ltb (card .0) (cardsOf ws)) (channelRefusal letterMail (cardsOf ws) w (deliver (card .0))) 14 ≡ callRefusal ws w (actionOf (receiveCall card))
   unfolding callRefusal
   receive-refusal card = ap (λ r. cond (ltb (card .0) (cardsOf ws)) r 14) (fine _) ∙ present (ltb (card .0) (cardsOf ws)) _ 14 (omega arith)
 

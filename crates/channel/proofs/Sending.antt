@@ -38,7 +38,8 @@ kind-some ws b l tag h = go (l .message .body) (kind-same ws b l tag h)
 
 -- ---- one destination: in flight
 
-module _ (ws : List ℕ) (w : ChannelState Letter) (z : Sized ws) (v : Shows ws w) (i : ℕ) (l : Letter) (card : i < cardsOf ws) (task : l .message .task .0 < tasksOf ws) where
+module _ (ws : List ℕ) (w : ChannelState Letter) (z : Sized ws) (v : Shows ws w) (i : ℕ) (l : Letter) (card : i < cardsOf ws)
+    (task : l .message .task .0 < tasksOf ws) where
   abbrev pub flown : List ℕ
   flown = stored ws (flightBlock (l .message .task .0)) l (takenOf ws i)
 

@@ -159,8 +159,11 @@ module _ (ws : List ℕ) (long : length ws ≡ 4808) (f : Fit ws) (task : Task) 
   single-keeps = go (isDone (singleAnswer ws task)) refl
     where
       us : List ℕ
-      us = landed ws (task .0) (flightTo ws (task .0)) (flightLetter ws (task .0)) (flightTag ws (task .0)) (joinsAt ws (flightTo ws (task .0)) (flightTag ws (task .0)))
+      us =
+          landed ws (task .0) (flightTo ws (task .0)) (flightLetter ws (task .0)) (flightTag ws (task .0))
+          (joinsAt ws (flightTo ws (task .0)) (flightTag ws (task .0)))
 
       go : (b : Bool) → isDone (singleAnswer ws task) ≡ b → Kept (cond b us ws) ws
-      go true e = let k = landed-knew ws task e in landed-fit ws long f (task .0) k (joinsAt ws (flightTo ws (task .0)) (flightTag ws (task .0))) (k .room-in) (k .room-held)
+      go true e =
+          let k = landed-knew ws task e in landed-fit ws long f (task .0) k (joinsAt ws (flightTo ws (task .0)) (flightTag ws (task .0))) (k .room-in) (k .room-held)
       go false e = unchanged ws long f

@@ -77,7 +77,8 @@ room-number ws i n there l c h =
     go false = let e : countOf ws i + 0 + r ≡ countOf ws i + r = omega arith in rw e (above (countOf ws i + r) 48)
     go true = let e : countOf ws i + 1 + r ≡ countOf ws i + r + 1 = omega arith in rw e (busy (leb 32 b))
       where
-        busy : (u : Bool) → answerNumber (cond u Crowded (cond (ltb 48 (countOf ws i + r + 1)) IllSized Done)) ≡ cond u 35 (otherwise 6 (leb (countOf ws i + r + 1) 48))
+        busy : (u : Bool)
+            → answerNumber (cond u Crowded (cond (ltb 48 (countOf ws i + r + 1)) IllSized Done)) ≡ cond u 35 (otherwise 6 (leb (countOf ws i + r + 1) 48))
         busy true = refl
         busy false = above (countOf ws i + r + 1) 48
 

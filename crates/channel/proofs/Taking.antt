@@ -93,7 +93,8 @@ module _ (ws : List ℕ) (i n : ℕ) (l : Letter) (card : i < 8) (whole : length
     pub one-room : countOf numbered i < 48
     one-room = rw (one-word (countWord i) (omega arith)) room
 
-    two-word : (a : ℕ) → a ≢ countWord i → ((k : ℕ) → k < 8 → a ≢ placeOf numbered i (countOf numbered i) * 8 + k) → getD (pushed numbered i l) a 0 ≡ getD numbered a 0
+    two-word : (a : ℕ) → a ≢ countWord i → ((k : ℕ) → k < 8 → a ≢ placeOf numbered i (countOf numbered i) * 8 + k)
+        → getD (pushed numbered i l) a 0 ≡ getD numbered a 0
     two-word = pushed-word numbered i l one-long card one-room
 
     pub begun-in : Begun true (pushed numbered i l)
