@@ -12,6 +12,7 @@ pub mod Distinct
 pub mod KeepsPromise
 -- The order T, the paper's wording, and what the promise refuses
 pub mod RankOrder
+pub mod SameOrder
 pub mod PromiseLaws
 pub mod PaperWording
 pub mod Mistakes
