@@ -28,14 +28,14 @@ use Rattle.channel.specs.Sized.{wellSized}
 use Rattle.channel.specs.Shows.{letterMail, Shows, stateOf}
 use Rattle.channel.specs.Calls.{done}
 use Rattle.channel.specs.MemoryCalls.{Call, dispatchCall, takeBroadcastCall, takeSingleCall, receiveCall, callNumber, callMemory, actionOf, orElse, absent, unfit, callRefusal, letters, CallFollows}
-use Rattle.channel.proofs.Facts.{Sized}
-use Rattle.channel.proofs.Answering.{done-number}
+use Rattle.channel.proofs.SizedFacts.{Sized}
+use Rattle.channel.proofs.AnswerNumbers.{done-number}
 use Rattle.channel.proofs.Receiving.{receive-number, receive-left}
 use Rattle.channel.proofs.TakeBroadcastLaw.{take-number, take-left}
 use Rattle.channel.proofs.TakeSingleLaw.{single-number, single-left}
 use Rattle.channel.proofs.DispatchLaw.{dispatch-number, dispatch-left}
-use Rattle.channel.proofs.Fitting.{Fit, fit-of, of-fit}
-use Rattle.channel.proofs.FitSized.{sized-of}
+use Rattle.channel.proofs.WellSizedParts.{Fit, fit-of, of-fit}
+use Rattle.channel.proofs.FitKept.{sized-of}
 use Rattle.channel.proofs.SizedReceive.{receive-keeps}
 use Rattle.channel.proofs.SizedTakeBroadcast.{take-keeps}
 use Rattle.channel.proofs.SizedTakeSingle.{single-keeps}

@@ -23,8 +23,8 @@ use Rattle.channel.specs.TakeSingle.{noFlight}
 use Rattle.channel.specs.Dispatch.{nearAt, near, castAnswer, castMemory, flyAnswer, flyMemory, letterOf, dispatchAnswer, dispatchMemory}
 use Rattle.channel.specs.Shows.{letterMail, taggedAt, flightOf, Shows}
 use Rattle.channel.specs.MemoryCalls.{orElse}
-use Rattle.channel.proofs.Facts.{Sized}
-use Rattle.channel.proofs.Answering.{picked, settle}
+use Rattle.channel.proofs.SizedFacts.{Sized}
+use Rattle.channel.proofs.AnswerNumbers.{picked, settle}
 use Rattle.channel.proofs.Sending.{fly-shows, cast-shows}
 
 -- a fitting letter is of a task that is present

@@ -21,11 +21,11 @@ use Rattle.channel.specs.TakeBroadcast.{Sweep, sweeps, swept, releasedWo
 use Rattle.channel.specs.Sized.{blockFits, heldFits}
 use Rattle.channel.specs.Shows.{heldOf}
 use Rattle.channel.proofs.Blocks.{word-other}
-use Rattle.channel.proofs.View.{pushed-word}
+use Rattle.channel.proofs.InboxRing.{pushed-word}
 use Rattle.channel.proofs.Release.{heldFirst, fewer, Swept, y, at-k, joins-is, stays-is, space, sweeps-swept, end, swept-all, released-is, release-word}
 use Rattle.channel.specs.MemoryCalls.{SameSizes}
-use Rattle.channel.proofs.Fitting.{fits-same}
-use Rattle.channel.proofs.FitMoves.{block-letter, BoxFit, box-same, push-sizes, push-box, HeldFit, held-same, held-put}
+use Rattle.channel.proofs.WellSizedParts.{fits-same}
+use Rattle.channel.proofs.FitQueues.{block-letter, BoxFit, box-same, push-sizes, push-box, HeldFit, held-same, held-put}
 
 pub sizes-trans : (us vs ws : List ℕ) → SameSizes us vs → SameSizes vs ws → SameSizes us ws
 sizes-trans us vs ws p q = record { cards = p .cards ∙ q .cards; tasks = p .tasks ∙ q .tasks; registers = p .registers ∙ q .registers }

@@ -14,8 +14,8 @@ use Rattle.channel.specs.Layout.{takenWord, headWord, countWord, heldWor
 use Rattle.channel.specs.TakeSingle.{noFlight}
 use Rattle.channel.specs.Shows.{inboxOf, heldOf, flightOf, Shows}
 use Rattle.channel.proofs.Blocks.{letter-cong}
-use Rattle.channel.proofs.View.{tagged-cong, held-cong, ring-cong}
-use Rattle.channel.proofs.Facts.{cards-most, cards-words, tasks-words}
+use Rattle.channel.proofs.InboxRing.{tagged-cong, held-cong, ring-cong}
+use Rattle.channel.proofs.SizedFacts.{cards-most, cards-words, tasks-words}
 
 -- card j's part
 module _ (us ws : List ℕ) (j : ℕ) (e : (a : ℕ) → takenWord j ≤ a → a < takenWord (j + 1) → getD us a 0 ≡ getD ws a 0) where

@@ -44,15 +44,15 @@ pub mod Places
 pub mod RefusalsMean
 -- Blocks of words, and the queues that they show
 pub mod Blocks
-pub mod View
+pub mod InboxRing
 pub mod HeldMore
-pub mod Tags
+pub mod ReleasedLists
 pub mod Release
 pub mod Destinations
-pub mod Facts
+pub mod SizedFacts
 pub mod Frame
 -- What each operation does to the memory is what it does to the idealised state
-pub mod Answering
+pub mod AnswerNumbers
 pub mod Receiving
 pub mod Taking
 pub mod TakeBroadcastLaw
@@ -62,10 +62,10 @@ pub mod Sending
 pub mod DispatchLaw
 pub mod BeginLaw
 -- Each operation keeps the memory well sized
-pub mod Fitting
-pub mod FitMoves
+pub mod WellSizedParts
+pub mod FitQueues
 pub mod FitRelease
-pub mod FitSized
+pub mod FitKept
 pub mod SizedReceive
 pub mod SizedTakeBroadcast
 pub mod SizedTakeSingle

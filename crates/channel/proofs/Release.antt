@@ -19,8 +19,8 @@ use Rattle.channel.specs.Inbox.{pushed}
 use Rattle.channel.specs.TakeBroadcast.{Sweep, sweeps, swept, sweptWords, sweptKept, releasedWords}
 use Rattle.channel.specs.Shows.{taggedAt, inboxOf, heldOf}
 use Rattle.channel.proofs.Blocks.{word-other, letter-same, mark-same, length-stored}
-use Rattle.channel.proofs.Tags.{released-snoc, kept-snoc}
-use Rattle.channel.proofs.View.{tagged-cong, held-cong, ring-cong, pushed-long, pushed-word, pushed-count, push-appends, push-held}
+use Rattle.channel.proofs.ReleasedLists.{released-snoc, kept-snoc}
+use Rattle.channel.proofs.InboxRing.{tagged-cong, held-cong, ring-cong, pushed-long, pushed-word, pushed-count, push-appends, push-held}
 
 -- the first n messages held for card i
 abbrev pub heldFirst : List ℕ → ℕ → ℕ → List (Tagged Letter)

@@ -13,15 +13,15 @@ use Rattle.channel.specs.Shows.{letterMail, Shows}
 use Rattle.channel.specs.Calls.{done, calls}
 use Rattle.channel.specs.MemoryCalls.{Call, callNumber, callMemory, memoryAfter, answersAfter, actionOf, handedUp, absent, unfit, callRefusal, letters, refusalsAfter, SameSizes, RunFollows, actionsOf, stateAfter}
 use Rattle.channel.proofs.Receiving.{receive-answer}
-use Rattle.channel.proofs.Fitting.{fit-of, same-cards, same-tasks, fits-same}
+use Rattle.channel.proofs.WellSizedParts.{fit-of, same-cards, same-tasks, fits-same}
 use Rattle.channel.proofs.FitRelease.{sizes-trans}
-use Rattle.channel.proofs.FitSized.{sized-of}
+use Rattle.channel.proofs.FitKept.{sized-of}
 use Rattle.channel.proofs.CallLaws.{refused-is, call-follows}
 use Rattle.channel.proofs.CallsKeepPromise.{calls-promise}
 use Rattle.channel.proofs.CallsEvents.{calls-events}
 use Rattle.channel.proofs.CallsComplete.{calls-complete}
 use Rattle.channel.proofs.Destinations.{sole-present, single-of, member-present}
-use Rattle.channel.proofs.FitMoves.{fits-to, fits-small}
+use Rattle.channel.proofs.FitQueues.{fits-to, fits-small}
 use Rattle.channel.proofs.SizedDispatch.{fits-some}
 use Rattle.channel.specs.AtRest.{GoesToCards}
 use Rattle.channel.specs.Letters.{several, soleOf, fits}

@@ -21,7 +21,7 @@ use Rattle.channel.specs.Letters.{letterAt, kindAt, kindOf, stored}
 use Rattle.channel.specs.TakeSingle.{noFlight}
 use Rattle.channel.specs.Shows.{letterMail, flightOf, Shows}
 use Rattle.channel.proofs.Blocks.{word-other, letter-cong, letter-same, mark-same, kind-same, length-stored}
-use Rattle.channel.proofs.Facts.{Sized, cards-most, tasks-most, cards-words, tasks-words}
+use Rattle.channel.proofs.SizedFacts.{Sized, cards-most, tasks-most, cards-words, tasks-words}
 use Rattle.channel.proofs.Frame.{inbox-words, held-words, sent-words, flight-words}
 use Rattle.channel.proofs.Places.{nth-last, nth-old}
 

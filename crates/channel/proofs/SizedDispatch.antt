@@ -25,14 +25,14 @@ use Rattle.channel.specs.TakeSingle.{noFlight}
 use Rattle.channel.specs.Dispatch.{nearAt, near, castAnswer, castMemory, flyAnswer, flyMemory, letterOf, dispatchMemory}
 use Rattle.channel.specs.Sized.{flightFits, broadcastFits, headFits}
 use Rattle.channel.proofs.Blocks.{word-other, length-stored}
-use Rattle.channel.proofs.Facts.{cards-most, tasks-most}
-use Rattle.channel.proofs.Answering.{picked}
+use Rattle.channel.proofs.SizedFacts.{cards-most, tasks-most}
+use Rattle.channel.proofs.AnswerNumbers.{picked}
 use Rattle.channel.proofs.Destinations.{single-of}
 use Rattle.channel.proofs.DispatchLaw.{fits-task}
 use Rattle.channel.specs.MemoryCalls.{SameSizes}
-use Rattle.channel.proofs.Fitting.{CardFit, Fit, same-cards, same-tasks, fits-same, flight-same, broadcast-same, card-same}
-use Rattle.channel.proofs.FitMoves.{fits-small, put-letter, put-fits}
-use Rattle.channel.proofs.FitSized.{Kept, unchanged, head-same}
+use Rattle.channel.proofs.WellSizedParts.{CardFit, Fit, same-cards, same-tasks, fits-same, flight-same, broadcast-same, card-same}
+use Rattle.channel.proofs.FitQueues.{fits-small, put-letter, put-fits}
+use Rattle.channel.proofs.FitKept.{Kept, unchanged, head-same}
 
 or-intro : (a : Bool) {b : Bool} → b ≡ true → (a || b) ≡ true
 or-intro true e = refl

@@ -19,16 +19,16 @@ use Rattle.channel.specs.Answers.{isDone}
 use Rattle.channel.specs.TakeBroadcast.{releasedWords, joined, nextLetter, nextThere, takeAnswer, takeMemory}
 use Rattle.channel.specs.Sized.{blockFits, broadcastFits}
 use Rattle.channel.specs.Shows.{inboxOf, heldOf}
-use Rattle.channel.proofs.View.{pushed-word, pushed-count, pushed-head}
+use Rattle.channel.proofs.InboxRing.{pushed-word, pushed-count, pushed-head}
 use Rattle.channel.proofs.Release.{release-low}
-use Rattle.channel.proofs.Facts.{cards-most}
+use Rattle.channel.proofs.SizedFacts.{cards-most}
 use Rattle.channel.proofs.Taking.{numbered, one-word, one-long, one-room, begun-out, begun-in, joined-shows}
 use Rattle.channel.proofs.TakeBroadcastLaw.{inbox-length, push-length, Took, took}
 use Rattle.channel.specs.MemoryCalls.{SameSizes}
-use Rattle.channel.proofs.Fitting.{Fit, fits-same}
-use Rattle.channel.proofs.FitMoves.{block-letter, BoxFit, HeldFit, box-same, push-sizes, push-box, held-same}
+use Rattle.channel.proofs.WellSizedParts.{Fit, fits-same}
+use Rattle.channel.proofs.FitQueues.{block-letter, BoxFit, HeldFit, box-same, push-sizes, push-box, held-same}
 use Rattle.channel.proofs.FitRelease.{sizes-trans, release-few, release-box, release-fit}
-use Rattle.channel.proofs.FitSized.{Kept, unchanged, outside-sizes, sized-of, card-keeps}
+use Rattle.channel.proofs.FitKept.{Kept, unchanged, outside-sizes, sized-of, card-keeps}
 
 -- the next broadcast that a card takes fits
 pub next-fits : (ws : List ℕ) → Fit ws → (i : ℕ) → i < cardsOf ws → takenOf ws i < madeOf ws → fits ws (nextLetter ws i) ≡ true

@@ -22,9 +22,9 @@ use Rattle.channel.specs.Letters.{letterAt}
 use Rattle.channel.specs.Answers.{answerNumber, isDone}
 use Rattle.channel.specs.TakeBroadcast.{readyAt, releasableOf, broadcastAt, broadcastsOf, nextLetter, nextThere, roomAnswer, takeAnswer, takeMemory}
 use Rattle.channel.specs.Shows.{letterMail, taggedAt, inboxOf, heldOf, Shows}
-use Rattle.channel.proofs.Tags.{released-count}
-use Rattle.channel.proofs.Facts.{Sized}
-use Rattle.channel.proofs.Answering.{above, picked, passed, settle}
+use Rattle.channel.proofs.ReleasedLists.{released-count}
+use Rattle.channel.proofs.SizedFacts.{Sized}
+use Rattle.channel.proofs.AnswerNumbers.{above, picked, passed, settle}
 use Rattle.channel.proofs.Taking.{next-is, take-shows}
 use Rattle.channel.proofs.Places.{nth-past}
 

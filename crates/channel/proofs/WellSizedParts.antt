@@ -17,7 +17,7 @@ use Rattle.channel.specs.TakeSingle.{noFlight}
 use Rattle.channel.specs.Sized.{blockFits, inboxFits, heldFits, flightFits, broadcastFits, countsFit, cardFits, recentFits, headFits, wellSized}
 use Rattle.channel.specs.MemoryCalls.{SameSizes}
 use Rattle.channel.proofs.Blocks.{letter-cong}
-use Rattle.channel.proofs.Facts.{cards-words, tasks-words, registers-words}
+use Rattle.channel.proofs.SizedFacts.{cards-words, tasks-words, registers-words}
 
 -- card i's part, where m broadcasts are made
 pub record CardFit (ws : List ℕ) (m i : ℕ) : Type 0 where

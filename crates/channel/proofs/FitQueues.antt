@@ -18,11 +18,11 @@ use Rattle.channel.specs.Letters.{letterAt, kindAt, stored, single, know
 use Rattle.channel.specs.Inbox.{pushed, popped}
 use Rattle.channel.specs.Sized.{blockFits, inboxFits, heldFits}
 use Rattle.channel.proofs.Blocks.{letter-cong, letter-same}
-use Rattle.channel.proofs.View.{pushed-word, pushed-count, pushed-head, pushed-block, popped-word, popped-count, popped-head}
+use Rattle.channel.proofs.InboxRing.{pushed-word, pushed-count, pushed-head, pushed-block, popped-word, popped-count, popped-head}
 use Rattle.channel.proofs.Sending.{kind-some}
-use Rattle.channel.proofs.Facts.{cards-most}
+use Rattle.channel.proofs.SizedFacts.{cards-most}
 use Rattle.channel.specs.MemoryCalls.{SameSizes}
-use Rattle.channel.proofs.Fitting.{letter=, block-same}
+use Rattle.channel.proofs.WellSizedParts.{letter=, block-same}
 
 -- ---- a fitting letter
 
