@@ -74,3 +74,4 @@ pub mod SizedDispatch
 pub mod CallLaws
 pub mod RunLaw
 pub mod ChannelLaw
+pub mod MemoryExamples
