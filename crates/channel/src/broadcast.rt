@@ -97,8 +97,8 @@ fn broadcast_at(memory: &[u32; 4808], i: usize, k: u32) -> usize
     ensures { λ r. ⌜ (r ≡ broadcastAt (now (memory .entry)) i k) × (r ≤ 1) ⌝ }
 {
     let head = memory[FIRST + i * PART + HEAD];
-    let letter = load(memory, INBOX + i * BLOCKS + ((head % 48 + k) % 48) as usize);
-    if several(letter.to) {
+    let block = INBOX + i * BLOCKS + ((head % 48 + k) % 48) as usize;
+    if several(memory[block * 8 + 6]) {
         return 1;
     }
     0
