@@ -1,0 +1,4 @@
+pub mod Layer
+pub mod Events
+pub mod Explains
+pub mod Key

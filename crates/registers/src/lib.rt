@@ -1,0 +1,1 @@
+// The register layer (000 §5): copies of registers on cards, kept alike over a context multicast channel.
