@@ -4,6 +4,7 @@ pub mod Loops
 pub mod Parts
 pub mod Listings
 pub mod Histories
+pub mod HistoryMaps
 pub mod Latest
 pub mod Queues
 pub mod Filters

@@ -6,11 +6,7 @@ use mathlib.Core.Bool.{Bool, _&&_, cond, false, true, true≢false}
 use mathlib.Core.Logic.{_⊎_, inl, inr}
 use mathlib.Core.Path.{_∙_, _≡_, ap, refl, subst, sym}
 use Rattle.lists.specs.Tests.{and-fst, and-snd, cond-cases, eqb-of}
-use Rattle.registers.specs.Layer.{Msg, Status, ask, asking, done, put, quiet, reply, waiting}
-
-abbrev opOf : Msg → ℕ
-opOf (ask k) = k
-opOf (reply k) = k
+use Rattle.registers.specs.Layer.{opOf, Msg, Status, ask, asking, done, put, quiet, reply, waiting}
 
 abbrev isAsk : Msg → Bool
 isAsk (ask k) = true

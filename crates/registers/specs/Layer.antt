@@ -25,6 +25,11 @@ pub data Msg : Type 0 where
   ask : ℕ → Msg  -- its do message: read-do or update-do
   reply : ℕ → Msg  -- its reply message: read-reply or update-reply
 
+-- the operation of a message
+abbrev pub opOf : Msg → ℕ
+opOf (ask k) = k
+opOf (reply k) = k
+
 -- status(c), with the operation that it is about
 pub data Status : Type 0 where
   quiet : Status

@@ -1,0 +1,185 @@
+-- Sets of cards 0 to 7: small facts by computation over all of them; and what an accepted placement says of its sets of holders.
+use Prim.Native.Nat.{ℕ, _^_, _≤_, _<_}
+use mathlib.Core.Path.{_≡_, refl, sym, ap, _∙_}
+use mathlib.Core.Logic.{_⊎_, inl, inr}
+use mathlib.Core.Bool.{Bool, true, false, cond, _&&_, _||_, not, true≢false, false≢true}
+use native.Mathlib.Nat.{pow-le-pow-right, div-eq-of-lt}
+use native.Mathlib.Decide.{decLt}
+use native.Mathlib.Omega.{arith}
+use lib.Dec.{eqb, ltb, leb}
+use lib.ListN.{length, getD, List·getD-eq-default}
+use borrow.Author.Tests.{eqb-true, ltb-true, ltb-false, leb-true}
+use Rattle.lists.specs.Tests.{bool, clash, and-fst, and-snd, eqb-not, eqb-of}
+use Rattle.lists.specs.Every.{each, each-at}
+use Rattle.lists.specs.Loops.{turns, total}
+use Rattle.names.specs.CardSet.{memberOf, sizeOf, single, soleOf, justOf}
+use Rattle.names.specs.Placement.{Placement, tasks, registers, home, holders, copy, sized, homePlaced, registerPlaced, placed, placementRefusal}
+
+-- two tests with one value
+abbrev agree : Bool → Bool → Bool
+agree a b = cond a b (not b)
+
+agree-eq : (a b : Bool) → agree a b ≡ true → a ≡ b
+agree-eq true b e = sym e
+agree-eq false true e = absurd (false≢true e)
+agree-eq false false e = refl
+
+pub not-true : (t : Bool) → not t ≡ true → t ≡ false
+not-true true e = absurd (false≢true e)
+not-true false e = refl
+
+pub not-false : (t : Bool) → not t ≡ false → t ≡ true
+not-false true e = refl
+not-false false e = absurd (true≢false e)
+
+implies : (a b : Bool) → (not a || b) ≡ true → a ≡ true → b ≡ true
+implies true b e h = e
+implies false b e h = absurd (false≢true h)
+
+-- a set with one card has no other, and that card is below 8
+alone-at : ℕ → Bool
+alone-at s = not (single s) || (ltb (soleOf s) 8 && each 8 (λ i. agree (memberOf s i) (eqb i (soleOf s))))
+
+all-alone : each 256 alone-at ≡ true
+unfolding alone-at each single sizeOf soleOf memberOf total turns eqb leb
+all-alone = refl
+
+just-at : ℕ → Bool
+just-at j = single (justOf j) && eqb (soleOf (justOf j)) j && ltb (justOf j) 256
+
+all-just : each 8 just-at ≡ true
+unfolding just-at each single sizeOf soleOf justOf total turns eqb leb
+all-just = refl
+
+-- a card past the set's size is not in it
+member-high : (s n i : ℕ) → s < 2 ^ n → n ≤ i → memberOf s i ≡ false
+unfolding memberOf
+member-high s n i h l =
+    let big : 2 ^ n ≤ 2 ^ i = pow-le-pow-right (omega arith) l in
+    let less : s < 2 ^ i = omega arith in
+    rw (div-eq-of-lt less) (eqb-not {m = 0} {n = 1} (λ q. absurd (omega arith)))
+
+-- a set of one card is that card's
+pub single-member : (s : ℕ) → s < 256 → single s ≡ true → (i : ℕ) → memberOf s i ≡ eqb i (soleOf s)
+unfolding alone-at
+single-member s h u i = go (decLt i 8)
+  where
+    both : (ltb (soleOf s) 8 && each 8 (λ j. agree (memberOf s j) (eqb j (soleOf s)))) ≡ true
+    both = implies (single s) _ (each-at 256 alone-at all-alone s h) u
+
+    low : soleOf s < 8
+    low = ltb-true (soleOf s) 8 (and-fst (ltb (soleOf s) 8) _ both)
+
+    go : Dec (i < 8) → memberOf s i ≡ eqb i (soleOf s)
+    go (yes l) = agree-eq _ _ (each-at 8 (λ j. agree (memberOf s j) (eqb j (soleOf s))) (and-snd (ltb (soleOf s) 8) _ both) i l)
+    go (no l) = member-high s 8 i h (omega arith) ∙ sym (eqb-not {m = i} {n = soleOf s} (λ q. absurd (omega (arith, low))))
+
+-- ---- the set of one card
+
+module _ (j : ℕ) (l : j < 8) where
+  facts : just-at j ≡ true
+  facts = each-at 8 just-at all-just j l
+
+  pub just-single : single (justOf j) ≡ true
+  unfolding just-at
+  just-single = and-fst (single (justOf j)) _ (and-fst (single (justOf j) && eqb (soleOf (justOf j)) j) _ facts)
+
+  pub just-sole : soleOf (justOf j) ≡ j
+  unfolding just-at
+  just-sole = eqb-true _ _ (and-snd (single (justOf j)) _ (and-fst (single (justOf j) && eqb (soleOf (justOf j)) j) _ facts))
+
+  just-small : justOf j < 256
+  unfolding just-at
+  just-small = ltb-true _ _ (and-snd (single (justOf j) && eqb (soleOf (justOf j)) j) _ facts)
+
+  pub just-member : (i : ℕ) → memberOf (justOf j) i ≡ eqb i j
+  just-member i = single-member (justOf j) just-small just-single i ∙ ap (eqb i) just-sole
+
+-- ---- an accepted placement
+
+first-of : (a b c d e f g : Bool) → (a && b && c && d && e && f && g) ≡ true → a ≡ true
+first-of true b c d e f g q = refl
+first-of false b c d e f g q = q
+
+second : (a b c d e f g : Bool) → (a && b && c && d && e && f && g) ≡ true → b ≡ true
+second a true c d e f g q = refl
+second true false c d e f g q = q
+second false false c d e f g q = q
+
+sixth : (a b c d e f g : Bool) → (a && b && c && d && e && f && g) ≡ true → f ≡ true
+sixth a b c d e f g q = and-snd (a && b && c && d && e) f (and-fst (a && b && c && d && e && f) g q)
+
+module _ (P : Placement) (ok : placementRefusal P ≡ 0) where
+  passed : (sized P ≡ true) × (placed P ≡ true)
+  unfolding placementRefusal
+  passed = go (sized P) (placed P) ok
+    where
+      go : (a b : Bool) → _≡_ {A = ℕ} (cond a (cond b 0 4) 3) 0 → (a ≡ true) × (b ≡ true)
+      go true true e = (refl, refl)
+      go true false e = absurd (omega arith)
+      go false b e = absurd (omega arith)
+
+  -- "Cards 1 to 8, registers 1 to 32, tasks 1 to 16"
+  pub cards-low : P .cards ≤ 8
+  unfolding sized
+  cards-low = leb-true _ _ (second (leb 1 (P .cards)) (leb (P .cards) 8) _ _ _ _ _ (passed .0))
+
+  pub some-card : 1 ≤ P .cards
+  unfolding sized
+  some-card = leb-true _ _ (first-of (leb 1 (P .cards)) _ _ _ _ _ _ (passed .0))
+
+  pub tasks-low : tasks P ≤ 16
+  unfolding sized
+  tasks-low = leb-true _ _ (sixth (leb 1 (P .cards)) (leb (P .cards) 8) (leb 1 (registers P)) (leb (registers P) 32) (leb 1 (tasks P)) (leb (tasks P) 16) _ (passed .0))
+
+  pub home-there : (c : ℕ) → c < tasks P → home P c < P .cards
+  unfolding placed homePlaced
+  home-there c l = ltb-true _ _ (each-at (tasks P) (homePlaced P) (and-fst (each (tasks P) (homePlaced P)) _ (passed .1)) c l)
+
+  -- an absent task counts as at home on card 0
+  pub home-low : (c : ℕ) → home P c < 8
+  home-low c = go (decLt c (tasks P))
+    where
+      go : Dec (c < tasks P) → home P c < 8
+      go (yes l) = let a = home-there c l in omega (arith, cards-low)
+      go (no l) = let e = List·getD-eq-default (P .homes) 0 {n = c} (omega arith) in omega arith
+
+  register-placed : (x : ℕ) → x < registers P → registerPlaced P x ≡ true
+  unfolding placed
+  register-placed x l = each-at (registers P) (registerPlaced P) (and-snd (each (tasks P) (homePlaced P)) _ (passed .1)) x l
+
+  pub held-somewhere : (x : ℕ) → x < registers P → 1 ≤ holders P x
+  unfolding registerPlaced
+  held-somewhere x l = leb-true _ _ (and-fst (leb 1 (holders P x)) _ (and-fst (leb 1 (holders P x) && ltb (holders P x) (2 ^ P .cards)) _ (register-placed x l)))
+
+  holders-below : (x : ℕ) → holders P x < 2 ^ P .cards
+  unfolding registerPlaced
+  holders-below x = go (decLt x (registers P))
+    where
+      positive : 2 ^ 0 ≤ 2 ^ P .cards
+      positive = let z : 0 ≤ P .cards = omega arith in pow-le-pow-right (omega arith) z
+
+      inside : x < registers P → holders P x < 2 ^ P .cards
+      inside l = ltb-true _ _ (and-snd (leb 1 (holders P x)) _ (and-fst (leb 1 (holders P x) && ltb (holders P x) (2 ^ P .cards)) _ (register-placed x l)))
+
+      go : Dec (x < registers P) → holders P x < 2 ^ P .cards
+      go (yes l) = inside l
+      go (no l) = let e = List·getD-eq-default (P .copies) 0 {n = x} (omega arith) in omega (arith, positive)
+
+  holders-low : (x : ℕ) → holders P x < 256
+  holders-low x =
+      let a = holders-below x in
+      let b : 2 ^ P .cards ≤ 2 ^ 8 = pow-le-pow-right (omega arith) cards-low in
+      omega arith
+
+  -- card i holds a copy where it is in the set of holders
+  pub copy-member : (x i : ℕ) → copy P x i ≡ memberOf (holders P x) i
+  copy-member x i = go (bool (ltb i (P .cards)))
+    where
+      go : (ltb i (P .cards) ≡ true) ⊎ (ltb i (P .cards) ≡ false) → copy P x i ≡ memberOf (holders P x) i
+      go (inl e) = ap (λ t. t && memberOf (holders P x) i) e
+      go (inr e) = ap (λ t. t && memberOf (holders P x) i) e ∙ sym (member-high (holders P x) (P .cards) i (holders-below x) (ltb-false i (P .cards) e))
+
+  -- the only copy
+  pub only : (x : ℕ) → single (holders P x) ≡ true → (i : ℕ) → copy P x i ≡ eqb i (soleOf (holders P x))
+  only x u i = copy-member x i ∙ single-member (holders P x) (holders-low x) u i

@@ -1,0 +1,206 @@
+-- The ledger on paper (01, "What demand 3 speaks of"): "A ledger on paper follows the list. It is fed the placement and the steps' codes and
+-- arguments, nothing of the store's state or answers."
+use Prim.Native.Nat.{ℕ}
+use mathlib.Core.Bool.{Bool, true, false, cond, _&&_}
+use mathlib.Core.List.{List, [], _∷_, _++_}
+use mathlib.Core.Option.{Option, none, some, Option·getD}
+use lib.Dec.{eqb}
+use lib.ListN.{length, getD}
+use Rattle.names.specs.CardSet.{several, soleOf}
+use Rattle.names.specs.Placement.{Placement, home, holders, primary, copy}
+use Rattle.channel.specs.Mail.{Mail}
+use Rattle.channel.specs.State.{ChannelState, ChannelAction, initialChannel, channelStep}
+use Rattle.channel.specs.State as C
+use Rattle.registers.specs.Layer.{World, Msg, ask, reply, opOf, Status, State, start, base, answers, to, next}
+use Rattle.registers.specs.Layer as R
+use Rattle.claims.specs.Command.{Command}
+use Rattle.claims.specs.Command as K
+use Rattle.claims.specs.Steps.{RawStep, Decoded, bad, good, decode}
+use Rattle.claims.specs.Refusals.{Stage, Sight, refusal}
+use Rattle.claims.specs.Refusals as S
+
+-- ---- what it writes down
+
+-- "A taken 1 or 2 opens an operation, .. with its task, register and, for an update, function and operand."
+pub record Op : Type 0 where
+  pub task : ℕ
+  pub reg : ℕ
+  pub upd : Bool
+  pub fn : ℕ
+  pub arg : ℕ
+
+abbrev pub readOp : ℕ → ℕ → Op
+readOp c x = record { task = c; reg = x; upd = false; fn = 0; arg = 0 }
+
+abbrev pub updateOp : ℕ → ℕ → ℕ → ℕ → Op
+updateOp c x f w = record { task = c; reg = x; upd = true; fn = f; arg = w }
+
+-- stands for an operation that is not there
+abbrev pub noOp : Op
+noOp = readOp 0 0
+
+pub record Ledger : Type 0 where
+  pub ops : List Op  -- the operations, "numbered from 0 in the order taken"
+  pub chosen : ℕ → Option ℕ  -- by operation: the holder that a taken 4 chose
+  pub layer : State  -- what each task does, the outboxes, the updates applied on each card (the register layer, values left out)
+  pub channel : ChannelState Msg  -- broadcasts made and taken, messages in flight and held, inboxes (the channel)
+
+-- "At first every task is quiet, every queue empty, nothing held or in flight, no broadcast made or taken."
+abbrev pub initialLedger : Ledger
+initialLedger = record { ops = []; chosen = λ k. none; layer = start; channel = initialChannel }
+
+-- the operation of number k
+abbrev pub opAt : List Op → ℕ → Op
+opAt ops k = getD ops k noOp
+
+-- ---- what a taken step is
+
+pub data Action : Type 0 where
+  request : Op → Action  -- 1, 2
+  perform : ℕ → ℕ → Action  -- 3: task, operation
+  send : ℕ → ℕ → ℕ → Action  -- 4, 5: task, operation, chosen card
+  dispatch : ℕ → Msg → Action  -- 6: card, the head of its outbox
+  takeBroadcast : ℕ → Action  -- 7: card
+  takeSingle : ℕ → Action  -- 8: task
+  deliver : Msg → ℕ → Action  -- 9: the head of a card's inbox, card
+  report : ℕ → ℕ → Action  -- 10: task, operation
+
+-- of the operation that a task's status is about
+abbrev pub about : Status → (ℕ → Action) → Option Action
+about R.quiet f = none
+about (R.asking k) f = some (f k)
+about (R.waiting k) f = some (f k)
+about (R.done k) f = some (f k)
+
+-- of the head of a queue
+abbrev pub headed : List Msg → (Msg → Action) → Option Action
+headed [] f = none
+headed (m ∷ l) f = some (f m)
+
+-- "An operation is reported by its task's next taken 10."
+abbrev pub plan : Ledger → Command → Option Action
+plan b (K.request-read c x) = some (Action.request (readOp c x))
+plan b (K.request-update c x f w) = some (Action.request (updateOp c x f w))
+plan b (K.perform c) = about (b .layer .status c) (Action.perform c)
+plan b (K.send-read c i) = about (b .layer .status c) (λ k. Action.send c k i)
+plan b (K.send-update c) = about (b .layer .status c) (λ k. Action.send c k 0)
+plan b (K.dispatch i) = headed (b .layer .out i) (Action.dispatch i)
+plan b (K.takeBroadcast i) = some (Action.takeBroadcast i)
+plan b (K.takeSingle c) = some (Action.takeSingle c)
+plan b (K.deliver i) = headed (b .channel .inbox i) (λ m. Action.deliver m i)
+plan b (K.report c) = about (b .layer .status c) (Action.report c)
+
+-- the chosen card, kept at its first value
+abbrev pub first : Option ℕ → ℕ → Option ℕ
+first none i = some i
+first (some j) i = some j
+
+abbrev pub choosing : (ℕ → Option ℕ) → ℕ → ℕ → ℕ → Option ℕ
+choosing f k i j = cond (eqb j k) (first (f j) i) (f j)
+
+-- what the rules ask of a task and of a message
+abbrev pub asks : Op → Stage
+asks o = cond (o .upd) (S.asksUpdate (o .reg)) (S.asksRead (o .reg))
+
+abbrev pub stageOf : List Op → Status → Stage
+stageOf ops R.quiet = S.quiet
+stageOf ops (R.asking k) = asks (opAt ops k)
+stageOf ops (R.waiting k) = S.waits
+stageOf ops (R.done k) = S.done
+
+-- delivered on card i, the message is answered by a reply
+abbrev pub answeredOf : World → Msg → ℕ → Bool
+answeredOf W (ask k) i = answers W k i
+answeredOf W (reply k) i = false
+
+-- one more action, if there is one
+abbrev pub noted : Option Action → List Action → List Action
+noted none ds = ds
+noted (some d) ds = d ∷ ds
+
+module _ (P : Placement) where
+  -- ---- how it is done
+
+  -- the placement and the operations, as the register layer sees them
+  abbrev pub worldOf : List Op → (ℕ → Option ℕ) → World
+  worldOf ops chosen = record {
+    home = home P;
+    copy = copy P;
+    primary = primary P;
+    task = λ k. (opAt ops k) .task;
+    reg = λ k. (opAt ops k) .reg;
+    upd = λ k. (opAt ops k) .upd;
+    chosen = λ k. Option·getD (chosen k) 0;
+  }
+
+  abbrev pub world : Ledger → World
+  world b = worldOf (b .ops) (b .chosen)
+
+  -- "Each message carries its operation's number, a reply that of the message it answers." What the channel reads off a message:
+  module _ (W : World) where
+    abbrev pub wide : Msg → Bool
+    wide (ask k) = W .upd k && several (holders P (W .reg k))
+    wide (reply k) = false
+
+    abbrev pub target : Msg → ℕ
+    target (ask k) = cond (W .upd k) (soleOf (holders P (W .reg k))) (W .chosen k)
+    target (reply k) = base W k
+
+    abbrev pub mailOf : Mail Msg
+    mailOf = record { task = λ m. W .task (opOf m); to = to W; multi = wide; dest = target }
+
+  abbrev pub channelAfter : Ledger → ChannelAction Msg → ChannelState Msg
+  channelAfter b x = channelStep (mailOf (world b)) (b .channel) x
+
+  -- "done as the ten steps say, values left out". "An update is applied on a card when a taken 3 performs it there or a taken 9 there
+  -- delivers its update message": the register layer's `applied`.
+  abbrev pub step : Ledger → Action → Ledger
+  step b (request o) = record {
+    ops = b .ops ++ (o ∷ []);
+    chosen = b .chosen;
+    layer = next (worldOf (b .ops ++ (o ∷ [])) (b .chosen)) (b .layer) (R.request (length (b .ops)));
+    channel = b .channel;
+  }
+  step b (perform c k) = record { ops = b .ops; chosen = b .chosen; layer = next (world b) (b .layer) (R.perform k); channel = b .channel }
+  step b (send c k i) = record { ops = b .ops; chosen = choosing (b .chosen) k i; layer = next (world b) (b .layer) (R.send k); channel = b .channel }
+  step b (dispatch i m) = record { ops = b .ops; chosen = b .chosen; layer = next (world b) (b .layer) (R.dispatch m); channel = channelAfter b (C.dispatch i m) }
+  step b (takeBroadcast i) = record { ops = b .ops; chosen = b .chosen; layer = b .layer; channel = channelAfter b (C.takeBroadcast i) }
+  step b (takeSingle c) = record { ops = b .ops; chosen = b .chosen; layer = b .layer; channel = channelAfter b (C.takeSingle c) }
+  step b (deliver m i) = record { ops = b .ops; chosen = b .chosen; layer = next (world b) (b .layer) (R.deliver m i); channel = channelAfter b (C.deliver i) }
+  step b (report c k) = record { ops = b .ops; chosen = b .chosen; layer = next (world b) (b .layer) (R.report k); channel = b .channel }
+
+  -- the ledger after a list of actions, newest first
+  abbrev pub ledger : List Action → Ledger
+  ledger [] = initialLedger
+  ledger (d ∷ ds) = step (ledger ds) d
+
+  -- ---- which steps are taken: "Each step is taken or refused by the rules above"
+
+  -- the requests taken are the operations
+  abbrev pub sightOf : Ledger → Sight Msg
+  sightOf b = record { requests = length (b .ops); stage = λ c. stageOf (b .ops) (b .layer .status c); out = b .layer .out; channel = b .channel }
+
+  abbrev pub ledgerRefusal : Ledger → Command → ℕ
+  ledgerRefusal b c = refusal P (mailOf (world b)) (answeredOf (world b)) (sightOf b) c
+
+  -- of a step as it is given: 0 if it is taken, else the number
+  abbrev pub decodedNumber : Ledger → Decoded → ℕ
+  decodedNumber b (bad n) = n
+  decodedNumber b (good c) = ledgerRefusal b c
+
+  abbrev pub numberOf : Ledger → RawStep → ℕ
+  numberOf b s = decodedNumber b (decode P s)
+
+  -- ---- following the list: "a refused one changes nothing"
+
+  abbrev pub notes : List Action → Decoded → List Action
+  notes ds (bad n) = ds
+  notes ds (good c) = noted (cond (eqb (ledgerRefusal (ledger ds) c) 0) (plan (ledger ds) c) none) ds
+
+  -- the actions of the steps taken, newest first
+  abbrev pub paperFrom : List Action → List RawStep → List Action
+  paperFrom ds [] = ds
+  paperFrom ds (s ∷ l) = paperFrom (notes ds (decode P s)) l
+
+  abbrev pub paper : List RawStep → List Action
+  paper l = paperFrom [] l

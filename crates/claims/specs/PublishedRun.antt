@@ -1,0 +1,66 @@
+-- A run of the published algorithm over a list of steps as they are given, and what it answers (01, "Run file and answer file": "result (a
+-- byte, 0 taken, else the refusal) and value .., which is the value read for a taken report of a read and 0 otherwise").
+use Prim.Native.Nat.{ℕ}
+use mathlib.Core.Bool.{cond}
+use mathlib.Core.List.{List, [], _∷_}
+use lib.Dec.{eqb}
+use Rattle.names.specs.Placement.{Placement}
+use Rattle.claims.specs.Command.{Command, request-read, request-update, perform, send-read, send-update, dispatch, takeBroadcast, takeSingle, deliver, report}
+use Rattle.claims.specs.Steps.{RawStep, Decoded, bad, good, decode}
+use Rattle.claims.specs.Published.{Doing, quiet, askingRead, askingUpdate, waiting, doneRead, doneUpdate, Published, begin, effect, commandRefusal}
+
+pub record Answer : Type 0 where
+  pub result : ℕ
+  pub value : ℕ
+
+-- the value that a task's report gives
+abbrev pub valueOf : Doing → ℕ
+valueOf quiet = 0
+valueOf (askingRead x) = 0
+valueOf (askingUpdate x f w) = 0
+valueOf waiting = 0
+valueOf (doneRead v) = v
+valueOf doneUpdate = 0
+
+abbrev pub valueAt : Published → Command → ℕ
+valueAt s (request-read c x) = 0
+valueAt s (request-update c x f w) = 0
+valueAt s (perform c) = 0
+valueAt s (send-read c j) = 0
+valueAt s (send-update c) = 0
+valueAt s (dispatch i) = 0
+valueAt s (takeBroadcast i) = 0
+valueAt s (takeSingle c) = 0
+valueAt s (deliver i) = 0
+valueAt s (report c) = valueOf (s .status c)
+
+module _ (P : Placement) where
+  -- "Step: .. rising number, then 6 for the outcome": 10 to 15 first, then 20 to 35, then 6
+  abbrev pub decodedRefusal : Published → Decoded → ℕ
+  decodedRefusal s (bad n) = n
+  decodedRefusal s (good c) = commandRefusal P s c
+
+  abbrev pub refusalOf : Published → RawStep → ℕ
+  refusalOf s a = decodedRefusal s (decode P a)
+
+  -- "6 to 35: state unchanged, value 0"
+  abbrev pub afterDecoded : Published → Decoded → Published
+  afterDecoded s (bad n) = s
+  afterDecoded s (good c) = cond (eqb (commandRefusal P s c) 0) (effect P s c) s
+
+  abbrev pub answerDecoded : Published → Decoded → Answer
+  answerDecoded s (bad n) = record { result = n; value = 0 }
+  answerDecoded s (good c) = record { result = commandRefusal P s c; value = cond (eqb (commandRefusal P s c) 0) (valueAt s c) 0 }
+
+  -- the state after a list of steps, and the answers
+  abbrev pub finalFrom : Published → List RawStep → Published
+  finalFrom s [] = s
+  finalFrom s (a ∷ l) = finalFrom (afterDecoded s (decode P a)) l
+
+  abbrev pub answersFrom : Published → List RawStep → List Answer
+  answersFrom s [] = []
+  answersFrom s (a ∷ l) = answerDecoded s (decode P a) ∷ answersFrom (afterDecoded s (decode P a)) l
+
+  -- a run from a start
+  abbrev pub publishedRun : List RawStep → Published × List Answer
+  publishedRun l = (finalFrom begin l, answersFrom begin l)

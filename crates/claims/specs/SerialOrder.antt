@@ -1,0 +1,71 @@
+-- Demand 3 (01, "What demand 3 speaks of"): "It is a single claim about the list, not one for each step." One serial order explains a list of
+-- steps that begins at the start from an accepted placement. Operations, reports and applied updates are the ledger's; the values are those
+-- that the store answered, and those in its table of copies at the end.
+use Prim.Native.Nat.{ℕ, _<_}
+use mathlib.Core.Path.{_≡_}
+use mathlib.Core.Logic.{_⊎_}
+use mathlib.Core.Bool.{Bool, true, false, _&&_}
+use mathlib.Core.List.{List, [], _∷_, _++_}
+use mathlib.Core.Option.{some}
+use lib.Dec.{eqb}
+use lib.ListN.{length}
+use Rattle.lists.specs.Histories.{In}
+use Rattle.lists.specs.Queues.{Once}
+use Rattle.lists.specs.Filters.{filter, Precedes}
+use Rattle.names.specs.Update.{updated}
+use Rattle.names.specs.Placement.{Placement, copy}
+use Rattle.channel.specs.State.{nth}
+use Rattle.registers.specs.Explains.{make}
+use Rattle.claims.specs.Steps.{RawStep}
+use Rattle.claims.specs.Ledger.{Op, opAt, Ledger, Action, report, ledger, paper}
+use Rattle.claims.specs.PublishedRun.{Answer}
+
+module _ (P : Placement) (steps : List RawStep) where
+  -- the ledger after the list
+  abbrev pub book : Ledger
+  book = ledger P (paper P steps)
+
+  -- operation k
+  abbrev pub op : ℕ → Op
+  op k = opAt (book .ops) k
+
+  -- "An operation is reported by its task's next taken 10": at step n (from 0) the ledger takes a 10 of a task that is done with k.
+  pub record ReportedAt (k n : ℕ) : Type 0 where
+    pub before : List RawStep
+    pub it : RawStep
+    pub after : List RawStep
+    pub whole : steps ≡ before ++ it ∷ after
+    pub place= : length before ≡ n
+    pub task : ℕ
+    pub taken : paper P (before ++ (it ∷ [])) ≡ report task k ∷ paper P before
+
+  -- the updates "applied on its card, in the order applied there"
+  abbrev pub appliedOn : ℕ → List ℕ
+  appliedOn i = book .layer .applied i
+
+  -- k is an update of register x
+  abbrev pub updates : ℕ → ℕ → Bool
+  updates x k = (op k) .upd && eqb ((op k) .reg) x
+
+  -- "What updates make of zero is 0 with each one's function applied in turn."
+  abbrev pub madeOfZero : List ℕ → ℕ
+  madeOfZero l = make (λ k. updated ((op k) .fn) ((op k) .arg)) 0 l
+
+  -- "A serial order is a list of operations"
+  pub record SerialOrder (answers : List Answer) (table : ℕ → ℕ → ℕ) (order : List ℕ) : Type 0 where
+    -- It holds exactly the reported operations and the updates applied on some card, each once.
+    pub only : (k : ℕ) → In k order → ((n : ℕ) × ReportedAt k n) ⊎ ((i : ℕ) × (((op k) .upd ≡ true) × In k (appliedOn i)))
+    pub reported : (k n : ℕ) → ReportedAt k n → In k order
+    pub applied : (k i : ℕ) → In k (appliedOn i) → In k order
+    pub once : Once order
+    -- It keeps each task's order of requests: "a task's order of requests is that of its operations' numbers".
+    pub tasks : (j k : ℕ) → In j order → In k order → (op j) .task ≡ (op k) .task → j < k → Precedes j k order
+    -- Each reported read gave exactly what its register's earlier updates in the order make of zero: "What a reported read gave is the value
+    -- that the store answered at the 10 which reported it."
+    pub reads : (k n : ℕ) → ReportedAt k n → (op k) .upd ≡ false → (pre post : List ℕ) → order ≡ pre ++ k ∷ post
+        → nth answers n ≡ some (record { result = 0; value = madeOfZero (filter (updates ((op k) .reg)) pre) })
+    -- Each copy shows a first part of its register's updates in the order: "A copy shows the updates of its register applied on its card, in
+    -- the order applied there"; "A first part may be empty or the whole".
+    pub copies : (x i : ℕ) → copy P x i ≡ true → (rest : List ℕ) × (filter (updates x) order ≡ filter (updates x) (appliedOn i) ++ rest)
+    -- And its value is exactly what they make of zero: "its value is the one in the store's table of copies".
+    pub copy-values : (x i : ℕ) → copy P x i ≡ true → table i x ≡ madeOfZero (filter (updates x) (appliedOn i))
