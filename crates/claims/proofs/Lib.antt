@@ -17,3 +17,8 @@ pub mod ChannelEffects
 pub mod SameEffect
 pub mod Together
 pub mod Demand3
+pub mod TakenIf
+pub mod NumbersMean
+pub mod NumbersExact
+pub mod StepNumbers
+pub mod RefusalExact

@@ -1,7 +1,7 @@
 -- A test of every number below a bound, as a loop with an early exit makes it.
 use Prim.Native.Nat.{ℕ, zero, suc, _+_, _<_}
 use mathlib.Core.Path.{_≡_, refl, ap, _∙_, subst}
-use mathlib.Core.Bool.{Bool, true, false, _&&_}
+use mathlib.Core.Bool.{Bool, true, false, _&&_, true≢false}
 use native.Mathlib.Numerals.{add-one}
 use native.Mathlib.Decide.{ℕ-discrete}
 use native.Mathlib.Omega.{arith}
@@ -55,3 +55,14 @@ pub each-cong : (n : ℕ) (p q : ℕ → Bool) → ((i : ℕ) → i < n → p i 
 unfolding each
 each-cong zero p q h = refl
 each-cong (suc n) p q h = rw (each-cong n p q (λ i g. h i (omega arith)), h n (omega arith))
+
+-- a failed test fails somewhere
+pub each-finds : (n : ℕ) (p : ℕ → Bool) → each n p ≡ false → (i : ℕ) × (i < n) × (p i ≡ false)
+unfolding each
+each-finds zero p e = absurd (true≢false e)
+each-finds (suc n) p e = go (each n p) refl (p n) refl e (each-finds n p)
+  where
+    go : (a : Bool) → each n p ≡ a → (b : Bool) → p n ≡ b → (a && b) ≡ false → (each n p ≡ false → (i : ℕ) × (i < n) × (p i ≡ false)) → (i : ℕ) × (i < suc n) × (p i ≡ false)
+    go true q true r e f = absurd (true≢false e)
+    go true q false r e f = (n, omega arith, r)
+    go false q b r e f = let z = f q in (z .0, (let l = z .1 in omega arith), z .2)
