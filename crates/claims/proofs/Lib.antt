@@ -22,3 +22,10 @@ pub mod NumbersMean
 pub mod NumbersExact
 pub mod StepNumbers
 pub mod RefusalExact
+pub mod Pending
+pub mod OnTheWay
+pub mod ChannelLimits
+pub mod Range
+pub mod Steady
+pub mod Room
+pub mod NeverSix

@@ -76,7 +76,7 @@ module _ (P : Placement) where
     near : ((j : ℕ) → j < P .cards → made P s < w .taken j + 64) → each (P .cards) (λ j. leb (suc (length (w .sent))) (w .taken j + 64)) ≡ true
     near h = each-of (P .cards) (λ j. leb (suc (length (w .sent))) (w .taken j + 64)) (λ j l. let g = h j l in le-leb (suc (length (w .sent))) (w .taken j + 64) g)
 
-    not-crowded : (i : ℕ) (m : Letter) → (memberOf (m .to) i ≡ false) ⊎ (undelivered P s i < 32) → (memberOf (m .to) i && leb 32 (undelivered P s i)) ≡ false
+    pub not-crowded : (i : ℕ) (m : Letter) → (memberOf (m .to) i ≡ false) ⊎ (undelivered P s i < 32) → (memberOf (m .to) i && leb 32 (undelivered P s i)) ≡ false
     not-crowded i m (inl e) = ap (λ t. t && leb 32 (undelivered P s i)) e
     not-crowded i m (inr l) = ap (λ t. memberOf (m .to) i && t) (lt-leb 32 (undelivered P s i) l) ∙ and-false (memberOf (m .to) i)
 

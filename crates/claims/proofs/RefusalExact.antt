@@ -135,7 +135,7 @@ module _ (P : Placement) (a : RawStep) where
   misformed-exact n = (misformed n, misformed-only)
 
   -- a number from 10 to 15
-  misformed-small : {n : ℕ} → Misformed P a n → (10 ≤ n) × (n ≤ 15)
+  pub misformed-small : {n : ℕ} → Misformed P a n → (10 ≤ n) × (n ≤ 15)
   misformed-small (code-zero e) = (omega arith, omega arith)
   misformed-small (code-high h) = (omega arith, omega arith)
   misformed-small (unnamed k j u h) = (omega arith, omega arith)

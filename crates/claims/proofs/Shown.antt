@@ -146,7 +146,7 @@ module _ (P : Placement) (ok : placementRefusal P ≡ 0) (ds : List Action) (f :
           go o false = just-sole (Option·getD (b .chosen k) 0) (asked-low k)
       dest= (reply k) = just-sole (home P ((opAt (b .ops) k) .task)) (home-low P ok ((opAt (b .ops) k) .task))
 
-  answered-alike : (m : Msg) (i : ℕ) → answered P (h m) i ≡ answeredOf (world P b) m i
+  pub answered-alike : (m : Msg) (i : ℕ) → answered P (h m) i ≡ answeredOf (world P b) m i
   answered-alike (ask k) i = go (opAt (b .ops) k) ((opAt (b .ops) k) .upd) (askLetter P (opAt (b .ops) k) (b .chosen k)) refl refl
     where
       go : (o : Op) (t : Bool) (m : Letter) → m .reg ≡ o .reg → m .task ≡ o .task

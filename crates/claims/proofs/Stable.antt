@@ -30,7 +30,7 @@ use Rattle.claims.specs.Published.{Letter, askingRead, askingUpdate, don
 use Rattle.registers.specs.Layer as R
 use Rattle.claims.specs.Ledger as L
 
-nth-in : {A : Type 0} {a : A} {l : List A} → In a l → (n : ℕ) × (nth l n ≡ some a)
+pub nth-in : {A : Type 0} {a : A} {l : List A} → In a l → (n : ℕ) × (nth l n ≡ some a)
 nth-in (here p) = (0, ap some p)
 nth-in (there h) = let r = nth-in h in (suc (r .0), r .1)
 

@@ -6,4 +6,5 @@ pub mod Allowed
 pub mod PublishedRun
 pub mod Ledger
 pub mod Numbers
+pub mod Limits
 pub mod SerialOrder

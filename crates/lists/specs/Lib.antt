@@ -11,3 +11,4 @@ pub mod Filters
 pub mod Maps
 pub mod Keys
 pub mod Sorting
+pub mod Counting
