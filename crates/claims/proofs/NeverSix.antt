@@ -2,7 +2,7 @@
 use Prim.Native.Nat.{ℕ, _<_, _≤_}
 use borrow.Author.Tests.{le-leb, lt-leb, ltb-true}
 use lib.Dec.{ltb}
-use lib.ListN.{length, length-append}
+use lib.ListN.{length, length-append, length-map}
 use mathlib.Core.Bool.{cond, false, true, true≢false}
 use mathlib.Core.List.{List, [], _∷_}
 use mathlib.Core.Logic.{inl, inr, _⊎_}
@@ -10,9 +10,10 @@ use mathlib.Core.Option.{Option·map, some}
 use mathlib.Core.Path.{ap, refl, subst, sym, _∙_, _≡_}
 use native.Mathlib.Omega.{arith}
 use Rattle.channel.specs.Automaton.{after}
+use Rattle.channel.specs.Renaming.{tag-map}
 use Rattle.channel.specs.State.{ChannelState, Tagged, arriving, landing, nth, taking}
 use Rattle.lists.specs.Histories.{In, here}
-use Rattle.lists.specs.Maps.{length-filter-map, map-head, map-length, map-some}
+use Rattle.lists.specs.Maps.{length-filter-map, map-head, map-some}
 use Rattle.lists.specs.Queues.{push}
 use Rattle.lists.specs.Tests.{and-fst, eqb-refl}
 use Rattle.names.specs.CardSet.{memberOf, several, soleOf}
@@ -26,7 +27,6 @@ use Rattle.claims.proofs.NumbersMean.{not-crowded}
 use Rattle.claims.proofs.OnTheWay.{broadcasts-few, flight-free, flight-task, held-short, taken-few}
 use Rattle.claims.proofs.Range.{Small, small}
 use Rattle.claims.proofs.RefusalExact.{misformed-small, refusal-exact}
-use Rattle.claims.proofs.Renaming.{tag-map}
 use Rattle.claims.proofs.Room.{asks-read, asks-update, held-16, inbox-48, number-left, outbox-16, reply-room, send-room}
 use Rattle.claims.proofs.Shown.{alike, answered-alike, same-refusal, showMsg, shown, vals}
 use Rattle.claims.proofs.Steady.{Steady, steady}
@@ -100,7 +100,7 @@ module _ (P : Placement) (ok : placementRefusal P ≡ 0) where
 
     -- the outboxes have as many messages as the ledger's
     out-length : (i : ℕ) → length (s .out i) ≡ length ((ledger P ds) .layer .out i)
-    out-length i = map-length names ((ledger P ds) .layer .out i)
+    out-length i = length-map ((ledger P ds) .layer .out i) names
 
     no-six : {n : ℕ} {c : Command} → Comes P s n c → n ≡ 6 → ⊥
     no-six (busy-read h) e = omega arith
@@ -137,7 +137,7 @@ module _ (P : Placement) (ok : placementRefusal P ≡ 0) where
         let t = map-head names ((ledger P ds) .layer .out i) m r q in
         let y = number-left P ok ds f small (t .0) i (t .1) (t .2) (sym (alike P ok ds f .multi= (t .0)) ∙ ap (λ z. several (z .to)) (t .3) ∙ u) in
         let z = a .count in
-        let k = map-length names ((ledger P ds) .channel .sent) in
+        let k = length-map ((ledger P ds) .channel .sent) names in
         omega arith
     no-six (second-in-flight {i} m r x q u p) e =
         let t = map-head names ((ledger P ds) .layer .out i) m r q in
@@ -181,14 +181,14 @@ module _ (P : Placement) (ok : placementRefusal P ≡ 0) where
     -- the limits, for the published state
     pub published-limits : WithinLimits mail (P .cards) (sight P (finalFrom P begin l))
     published-limits = subst (λ s. WithinLimits mail (P .cards) (sight P s)) (sym (together P ok l)) (record {
-      outboxes = λ i. let x = outbox-16 P ok ds (executes P ok l) (small P l) i in let y = map-length names ((ledger P ds) .layer .out i) in omega arith;
+      outboxes = λ i. let x = outbox-16 P ok ds (executes P ok l) (small P l) i in let y = length-map ((ledger P ds) .layer .out i) names in omega arith;
       inboxes = inbox-48 P ok ds (executes P ok l) (small P l) (steady-shown .modest);
       undelivered = steady-shown .modest .few;
       held = held-16 P ok ds (executes P ok l) (small P l);
       flights = flies;
-      broadcasts = let x = broadcasts-few P ok ds (executes P ok l) in let y = map-length names ((ledger P ds) .channel .sent) in omega arith;
+      broadcasts = let x = broadcasts-few P ok ds (executes P ok l) in let y = length-map ((ledger P ds) .channel .sent) names in omega arith;
       requests = steady-shown .count;
-      counts = λ i h. ((let x = taken-few P ok ds (executes P ok l) i in let y = map-length names ((ledger P ds) .channel .sent) in omega arith), steady-shown .modest .near i h);
+      counts = λ i h. ((let x = taken-few P ok ds (executes P ok l) i in let y = length-map ((ledger P ds) .channel .sent) names in omega arith), steady-shown .modest .near i h);
     })
       where
         names : Msg → Letter
@@ -203,7 +203,7 @@ module _ (P : Placement) (ok : placementRefusal P ≡ 0) where
     pub ledger-limits : WithinLimits (mailOf P (world P (ledger P ds))) (P .cards) (sightOf P (ledger P ds))
     ledger-limits = record {
       outboxes = outbox-16 P ok ds f (small P l);
-      inboxes = λ i. let x = inbox-48 P ok ds f (small P l) (steady-shown .modest) i in let y = map-length names ((ledger P ds) .channel .inbox i) in omega arith;
+      inboxes = λ i. let x = inbox-48 P ok ds f (small P l) (steady-shown .modest) i in let y = length-map ((ledger P ds) .channel .inbox i) names in omega arith;
       undelivered = λ i.
           let x = steady-shown .modest .few i in
           let y = length-filter-map names (wide P (world P (ledger P ds))) (mail .multi) (alike P ok ds f .multi=) ((ledger P ds) .channel .inbox i) in
@@ -212,7 +212,7 @@ module _ (P : Placement) (ok : placementRefusal P ≡ 0) where
       flights = flight-task P ok ds f;
       broadcasts = broadcasts-few P ok ds f;
       requests = steady-shown .count;
-      counts = λ i h. (taken-few P ok ds f i, (let x = steady-shown .modest .near i h in let y = map-length names ((ledger P ds) .channel .sent) in omega arith));
+      counts = λ i h. (taken-few P ok ds f i, (let x = steady-shown .modest .near i h in let y = length-map ((ledger P ds) .channel .sent) names in omega arith));
     }
       where
         f : Execution P ds

@@ -1,12 +1,13 @@
 -- In every list of actions that could take place, of present tasks, there is room for what the next step adds: the limits hold one step on.
 use Prim.Native.Nat.{suc, ℕ, _<_, _≤_}
-use lib.ListN.{length, length-append}
+use lib.ListN.{length, length-append, length-map}
 use mathlib.Core.Bool.{Bool, cond, false, false≢true, true}
 use mathlib.Core.List.{List, [], _++_, _∷_}
 use mathlib.Core.Path.{ap, refl, _≡_}
 use native.Mathlib.Omega.{arith}
+use Rattle.channel.specs.Renaming.{tag-map}
 use Rattle.lists.specs.Counting.{filter-split}
-use Rattle.lists.specs.Maps.{length-filter-map, map-length}
+use Rattle.lists.specs.Maps.{length-filter-map}
 use Rattle.lists.specs.Queues.{push}
 use Rattle.lists.specs.Tests.{and-intro, eqb-of, eqb-refl}
 use Rattle.names.specs.Placement.{Placement, copy, home, placementRefusal, tasks}
@@ -17,7 +18,6 @@ use Rattle.claims.proofs.Executions.{Execution, trace}
 use Rattle.claims.proofs.LedgerRun.{asked-op}
 use Rattle.claims.proofs.OnTheWay.{broadcasts-few, held-short, outbox-short, singles-short}
 use Rattle.claims.proofs.Range.{Small, small}
-use Rattle.claims.proofs.Renaming.{tag-map}
 use Rattle.claims.proofs.Shown.{alike, showMsg, showStatus, shown, vals}
 use Rattle.claims.proofs.Stable.{S, hold}
 use Rattle.claims.proofs.Steady.{updateOn}
@@ -83,7 +83,7 @@ module _ (P : Placement) (ok : placementRefusal P ≡ 0) where
     pub held-16 : (i : ℕ) → length ((shown P ds) .channel .held i) ≤ 16
     held-16 i =
         let l = held-short P ok ds f (tasks P) small i in
-        let e = map-length (tag-map h) (b .channel .held i) in
+        let e = length-map (b .channel .held i) (tag-map h) in
         omega (arith, tasks-low P ok)
 
     -- 32 broadcasts and 16 others
@@ -93,7 +93,7 @@ module _ (P : Placement) (ok : placementRefusal P ≡ 0) where
         let l = singles-short P ok ds f (tasks P) small i in
         let x = m .few i in
         let y = length-filter-map h (wide P (world P b)) (mail .multi) (alike P ok ds f .multi=) (b .channel .inbox i) in
-        let z = map-length h (b .channel .inbox i) in
+        let z = length-map (b .channel .inbox i) h in
         omega (arith, tasks-low P ok)
 
     -- steps 4 and 5: the message is not the 17th

@@ -2,7 +2,7 @@
 use Prim.Native.Nat.{zero, suc}
 use mathlib.Core.Path.{_≡_, refl, ap, ap₂, _∙_}
 use mathlib.Core.Bool.{Bool, true, false}
-use mathlib.Core.List.{List, [], _∷_, _++_, map}
+use mathlib.Core.List.{List, [], _∷_, map, map-append}
 use mathlib.Core.Option.{Option, none, some, Option·map, Option·none-ne-some, Option·some-injective}
 use native.Mathlib.Omega.{arith}
 use lib.ListN.{length}
@@ -11,16 +11,8 @@ use Rattle.lists.specs.Queues.{push, pop}
 use Rattle.lists.specs.Filters.{keep, filter}
 
 module _ {A B : Type 0} (h : A → B) where
-  pub map-length : (l : List A) → length (map h l) ≡ length l
-  map-length [] = refl
-  map-length (a ∷ l) = ap suc (map-length l)
-
-  pub map-append : (l r : List A) → map h (l ++ r) ≡ map h l ++ map h r
-  map-append [] r = refl
-  map-append (a ∷ l) r = ap (λ k. h a ∷ k) (map-append l r)
-
   pub map-push : (t : Bool) (a : A) (l : List A) → map h (push t a l) ≡ push t (h a) (map h l)
-  map-push true a l = map-append l (a ∷ [])
+  map-push true a l = map-append h l (a ∷ [])
   map-push false a l = refl
 
   pub map-pop : (t : Bool) (l : List A) → map h (pop t l) ≡ pop t (map h l)
