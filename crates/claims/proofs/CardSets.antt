@@ -1,19 +1,20 @@
 -- Sets of cards 0 to 7: small facts by computation over all of them; and what an accepted placement says of its sets of holders.
-use Prim.Native.Nat.{ℕ, _^_, _≤_, _<_}
-use mathlib.Core.Path.{_≡_, refl, sym, ap, _∙_}
-use mathlib.Core.Logic.{_⊎_, inl, inr}
-use mathlib.Core.Bool.{Bool, true, false, cond, _&&_, _||_, not, true≢false, false≢true}
-use native.Mathlib.Nat.{pow-le-pow-right, div-eq-of-lt}
+use Prim.Native.Nat.{ℕ, _<_, _^_, _≤_}
+use borrow.Author.Tests.{eqb-true, leb-true, ltb-false, ltb-true}
+use lib.Dec.{eqb, leb, ltb}
+use lib.ListN.{List·getD-eq-default}
+use mathlib.Core.Bool.{Bool, cond, false, false≢true, not, true, _&&_, _||_}
+use mathlib.Core.Logic.{inl, inr, _⊎_}
+use mathlib.Core.Path.{ap, refl, sym, _∙_, _≡_}
 use native.Mathlib.Decide.{decLt}
+use native.Mathlib.Nat.{div-eq-of-lt, pow-le-pow-right}
 use native.Mathlib.Omega.{arith}
-use lib.Dec.{eqb, ltb, leb}
-use lib.ListN.{length, getD, List·getD-eq-default}
-use borrow.Author.Tests.{eqb-true, ltb-true, ltb-false, leb-true}
-use Rattle.lists.specs.Tests.{bool, clash, and-fst, and-snd, eqb-not, eqb-of}
 use Rattle.lists.specs.Every.{each, each-at}
-use Rattle.lists.specs.Loops.{turns, total}
-use Rattle.names.specs.CardSet.{memberOf, sizeOf, single, soleOf, justOf}
-use Rattle.names.specs.Placement.{Placement, tasks, registers, home, holders, primary, copy, sizesInRange, sized, homePlaced, homesPlaced, registerPlaced, registersPlaced, placed, placementRefusal}
+use Rattle.lists.specs.Keys.{less}
+use Rattle.lists.specs.Loops.{total, turns}
+use Rattle.lists.specs.Tests.{and-fst, and-snd, bool, eqb-not}
+use Rattle.names.specs.CardSet.{justOf, memberOf, single, sizeOf, soleOf}
+use Rattle.names.specs.Placement.{Placement, copy, holders, home, homePlaced, placed, placementRefusal, registerPlaced, registers, sized, tasks}
 
 -- two tests with one value
 abbrev agree : Bool → Bool → Bool
@@ -23,14 +24,6 @@ agree-eq : (a b : Bool) → agree a b ≡ true → a ≡ b
 agree-eq true b e = sym e
 agree-eq false true e = absurd (false≢true e)
 agree-eq false false e = refl
-
-pub not-true : (t : Bool) → not t ≡ true → t ≡ false
-not-true true e = absurd (false≢true e)
-not-true false e = refl
-
-pub not-false : (t : Bool) → not t ≡ false → t ≡ true
-not-false true e = refl
-not-false false e = absurd (true≢false e)
 
 implies : (a b : Bool) → (not a || b) ≡ true → a ≡ true → b ≡ true
 implies true b e h = e

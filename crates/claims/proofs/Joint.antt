@@ -1,6 +1,6 @@
 -- Both layers together: the register layer over the channel. No promise is assumed here; the channel's is proved.
 use Prim.Native.Nat.{ℕ}
-use borrow.Author.Tests.{eqb-true}
+use borrow.Author.Tests.{eqb-true, not-false}
 use lib.Dec.{eqb}
 use mathlib.Core.Bool.{Bool, cond, false, false≢true, true}
 use mathlib.Core.List.{List, [], map, _∷_}
@@ -20,7 +20,7 @@ use Rattle.registers.proofs.Fresh.{fresh-dispatch}
 use Rattle.registers.proofs.Ordered.{ordered}
 use Rattle.registers.specs.Events.{Dispatches}
 use Rattle.registers.specs.Layer.{Event, Msg, Precondition, Valid, World, ask, from, reply, run, to, view}
-use Rattle.claims.proofs.CardSets.{not-false, only}
+use Rattle.claims.proofs.CardSets.{only}
 use Rattle.claims.specs.Ledger.{Op, mailOf, target, wide, worldOf}
 use Rattle.registers.specs.Layer as R
 use Rattle.channel.specs.Automaton as C

@@ -1,6 +1,6 @@
 -- A step that is not refused is an action of the ledger that could take place; and the list on paper is such a list.
 use Prim.Native.Nat.{suc, ℕ, _<_}
-use borrow.Author.Tests.{eqb-true, ltb-true}
+use borrow.Author.Tests.{eqb-true, ltb-true, not-false, not-true}
 use lib.Dec.{eqb, ltb}
 use lib.ListN.{length}
 use mathlib.Core.Bool.{Bool, cond, false, false≢true, not, true, true≢false, _&&_}
@@ -15,7 +15,7 @@ use Rattle.lists.specs.Tests.{and-fst, and-snd, eqb-not, eqb-of}
 use Rattle.names.specs.CardSet.{several, single}
 use Rattle.names.specs.Placement.{Placement, copy, holders, home, placementRefusal}
 use Rattle.registers.specs.Layer.{Msg, Status}
-use Rattle.claims.proofs.CardSets.{not-false, not-true, only, some-card}
+use Rattle.claims.proofs.CardSets.{only, some-card}
 use Rattle.claims.proofs.Executions.{Enabled, Execution}
 use Rattle.claims.specs.Command.{Command}
 use Rattle.claims.specs.Ledger.{Action, Ledger, Op, about, answeredOf, headed, ledger, ledgerRefusal, mailOf, noted, notes, opAt, paper, paperFrom, plan, readOp, stageOf, updateOp, world}
