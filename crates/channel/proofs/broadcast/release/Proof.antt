@@ -1,15 +1,10 @@
-use borrow.Author.Needs.{needs}
 use Prim.Native.Nat.{_-_, _≤_}
-use Rattle.channel.specs.TakeBroadcast.{Sweep, releasedWords, sweeps, sweeps-more, sweeps-zero, swept}
-use Rattle.lists.specs.Tests.{cases}
-use mathlib.Core.Path.{_≡_, ap, sym}
+use mathlib.Core.Path.{_≡_}
 use native.Mathlib.Omega.{arith}
+use borrow.Author.Needs.{needs}
+use Rattle.channel.specs.TakeBroadcast.{releasedWords, sweeps, sweeps-more, sweeps-zero, swept}
 use Rattle.channel.proofs.broadcast.release.Statement.{statement}
 use Rattle.channel.proofs.broadcast.release.Tie as tie
-use Rattle.channel.proofs.broadcast.release.Reads as reads
-use Rattle.channel.proofs.broadcast.release.Lts as lts
-use Rattle.channel.proofs.broadcast.sweep.Reads as sweep-reads
-use Rattle.channel.proofs.layout.capped.Reads as capped-reads
 
 abbrev Inv-loop : tie.InvT-loop
 Inv-loop memory₀ i n held kept₀ k₀ memory kept k = (k ≤ held) × (kept ≤ k) × (memory ≡ sweeps i n k memory₀ .words) × (kept ≡ sweeps i n k memory₀ .kept)
