@@ -1,7 +1,7 @@
 -- A letter, that is a message with its sender and its destinations, in a block of eight words: kind, task, register, function, value,
 -- sender, destinations, tag. An empty flight slot has kind 0.
-use Prim.Native.Nat.{ℕ, zero, suc, _+_, _*_, _^_}
-use mathlib.Core.Bool.{Bool, true, false, cond, _&&_}
+use Prim.Native.Nat.{ℕ, _+_, _*_, _^_}
+use mathlib.Core.Bool.{Bool, true, cond, _&&_}
 use mathlib.Core.List.{List}
 use lib.Dec.{eqb, ltb, leb}
 use lib.ListN.{getD, set}

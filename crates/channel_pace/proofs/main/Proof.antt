@@ -1,5 +1,5 @@
-use borrow.Author.Needs.{needs}
 use Prim.Native.Nat.{_-_}
+use borrow.Author.Needs.{needs}
 use Rattle.channel_pace.proofs.main.Statement.{statement}
 use Rattle.channel_pace.proofs.main.Tie as tie
 

@@ -1,5 +1,5 @@
-use borrow.Author.Needs.{needs}
 use Prim.Native.Nat.{_-_}
+use borrow.Author.Needs.{needs}
 use Rattle.channel_pace.proofs.rounds.Statement.{statement}
 use Rattle.channel_pace.proofs.rounds.Tie as tie
 

@@ -1,8 +1,8 @@
-use Rattle.channel.specs.TakeBroadcast.{broadcastAt}
-use Rattle.channel.specs.Letters.{letterAt}
+use mathlib.Core.Path.{sym, _∙_}
 use native.Mathlib.Omega.{arith}
-use mathlib.Core.Path.{_≡_, sym, _∙_}
 use borrow.Author.Needs.{needs}
+use Rattle.channel.specs.Letters.{letterAt}
+use Rattle.channel.specs.TakeBroadcast.{broadcastAt}
 use Rattle.channel.proofs.broadcast.broadcast_at.Statement.{statement}
 use Rattle.channel.proofs.broadcast.broadcast_at.Tie as tie
 

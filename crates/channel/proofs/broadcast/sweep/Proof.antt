@@ -1,15 +1,9 @@
-use Rattle.channel.specs.TakeBroadcast.{sweptKept, sweptWords}
-use Rattle.lists.specs.Tests.{cases}
-use borrow.Author.Tests.{eq-eqb, ne-eqb}
 use native.Mathlib.Omega.{arith}
 use borrow.Author.Needs.{needs}
+use borrow.Author.Tests.{eq-eqb, ne-eqb}
+use Rattle.channel.specs.TakeBroadcast.{sweptKept, sweptWords}
 use Rattle.channel.proofs.broadcast.sweep.Statement.{statement}
 use Rattle.channel.proofs.broadcast.sweep.Tie as tie
-use Rattle.channel.proofs.broadcast.sweep.Reads as reads
-use Rattle.channel.proofs.broadcast.sweep.Lts as lts
-use Rattle.channel.proofs.inbox.push.Reads as push-reads
-use Rattle.channel.proofs.letters.load.Reads as load-reads
-use Rattle.channel.proofs.letters.store.Reads as store-reads
 
 mul-block : tie.Need-mul-block
 mul-block c = search needs

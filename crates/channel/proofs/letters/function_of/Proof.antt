@@ -1,10 +1,8 @@
-use Rattle.channel.specs.Letters.{functionOf}
-use Rattle.lists.specs.Tests.{cases}
 use borrow.Author.Needs.{needs}
+use Rattle.lists.specs.Tests.{cases}
+use Rattle.channel.specs.Letters.{functionOf}
 use Rattle.channel.proofs.letters.function_of.Statement.{statement}
 use Rattle.channel.proofs.letters.function_of.Tie as tie
-use Rattle.channel.proofs.letters.function_of.Reads as reads
-use Rattle.channel.proofs.letters.function_of.Lts as lts
 
 enum-told : tie.Need-enum-told
 enum-told c = search needs

@@ -1,6 +1,6 @@
-use Rattle.channel.specs.Letters.{known}
 use borrow.Author.Needs.{needs}
 use Rattle.lists.specs.Tests.{cases}
+use Rattle.channel.specs.Letters.{known}
 use Rattle.channel.proofs.letters.known.Statement.{statement}
 use Rattle.channel.proofs.letters.known.Tie as tie
 

@@ -1,12 +1,7 @@
-use Rattle.channel.specs.Letters.{several}
-use Rattle.lists.specs.Tests.{cases}
-use native.Mathlib.Omega.{arith}
 use borrow.Author.Needs.{needs}
+use Rattle.channel.specs.Letters.{several}
 use Rattle.channel.proofs.letters.several.Statement.{statement}
 use Rattle.channel.proofs.letters.several.Tie as tie
-use Rattle.channel.proofs.letters.several.Reads as reads
-use Rattle.channel.proofs.letters.several.Lts as lts
-use Rattle.names.proofs.size.Reads as size-reads
 
 size-requires : tie.Need-size-requires
 size-requires c κs = search needs
