@@ -1,4 +1,3 @@
-pub mod Blocks
 pub mod View
 pub mod Tags
 pub mod Release

@@ -9,7 +9,6 @@ use Rattle.channel.proofs.broadcast.broadcast_at.Tie as tie
 use Rattle.channel.proofs.broadcast.broadcast_at.Reads as reads
 use Rattle.channel.proofs.broadcast.broadcast_at.Lts as lts
 use Rattle.channel.proofs.letters.load.Reads as load-reads
-use Rattle.channel.proofs.letters.several.Reads as several-reads
 
 mul-head : tie.Need-mul-head
 mul-head c = search needs

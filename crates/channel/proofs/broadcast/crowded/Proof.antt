@@ -1,5 +1,6 @@
 use mathlib.Core.Path.{sym}
-use Rattle.channel.specs.Letters.{letterAt, several}
+use Rattle.names.specs.CardSet.{several}
+use Rattle.names.specs.Letters.{letterAt}
 use Rattle.channel.specs.TakeBroadcast.{broadcastAt, broadcastsOf}
 use Rattle.channel.specs.Layout.{countOf, placeOf}
 use Rattle.lists.specs.Loops.{total-most}

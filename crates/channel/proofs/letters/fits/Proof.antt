@@ -11,7 +11,6 @@ use Rattle.channel.proofs.layout.cards.Reads as cards-reads
 use Rattle.channel.proofs.layout.registers.Reads as registers-reads
 use Rattle.channel.proofs.layout.tasks.Reads as tasks-reads
 use Rattle.channel.proofs.letters.addressed.Reads as addressed-reads
-use Rattle.channel.proofs.letters.known.Reads as known-reads
 
 tasks-requires : tie.Need-tasks-requires
 tasks-requires c κs = search needs

@@ -1,11 +1,10 @@
-use Rattle.channel.specs.Letters.{letterAt}
+use Rattle.names.specs.Letters.{letterAt}
 use Rattle.lists.specs.Tests.{cases}
 use borrow.Author.Needs.{needs}
 use Rattle.channel.proofs.letters.load.Statement.{statement}
 use Rattle.channel.proofs.letters.load.Tie as tie
 use Rattle.channel.proofs.letters.load.Reads as reads
 use Rattle.channel.proofs.letters.load.Lts as lts
-use Rattle.channel.proofs.letters.body_of.Reads as body-of-reads
 
 mul-at : tie.Need-mul-at
 mul-at c = search needs

@@ -1,13 +1,10 @@
-use Rattle.channel.specs.Letters.{stored}
+use Rattle.names.specs.Letters.{stored}
 use Rattle.lists.specs.Tests.{cases}
 use borrow.Author.Needs.{needs}
 use Rattle.channel.proofs.letters.store.Statement.{statement}
 use Rattle.channel.proofs.letters.store.Tie as tie
 use Rattle.channel.proofs.letters.store.Reads as reads
 use Rattle.channel.proofs.letters.store.Lts as lts
-use Rattle.channel.proofs.letters.function_of.Reads as function-of-reads
-use Rattle.channel.proofs.letters.kind_of.Reads as kind-of-reads
-use Rattle.channel.proofs.letters.value_of.Reads as value-of-reads
 
 mul-at : tie.Need-mul-at
 mul-at c = search needs

@@ -2,7 +2,7 @@ use lib.ListN.{getD}
 use Prim.Native.Nat.{ℕ, _<_, min}
 use Rattle.channel.specs.Letters.{fits}
 use Rattle.channel.specs.Layout.{tasksOf}
-use Rattle.channel.specs.declared.Letter.{Letter}
+use Rattle.names.specs.declared.Letter.{Letter}
 use Rattle.lists.specs.Tests.{and-fst}
 use borrow.Author.Tests.{ltb-true, not-true, not-false}
 use native.Mathlib.Omega.{arith}

@@ -1,6 +1,5 @@
-use Rattle.channel.specs.Letters.{single, soleOf}
+use Rattle.names.specs.CardSet.{single, soleOf, bitOf, sizeOf}
 use Rattle.channel.specs.TakeSingle.{joinsAt}
-use Rattle.names.specs.CardSet.{bitOf, sizeOf}
 use Rattle.lists.specs.Loops.{total, turns}
 use mathlib.Core.Bool.{true}
 use borrow.Author.Tests.{not-true, not-false, eqb-true}
@@ -19,8 +18,6 @@ use Rattle.channel.proofs.single.take_single.Lts as lts
 use Rattle.channel.proofs.answers.done.Reads as done-reads
 use Rattle.channel.proofs.layout.tasks.Reads as tasks-reads
 use Rattle.channel.proofs.letters.load.Reads as load-reads
-use Rattle.channel.proofs.letters.single.Reads as single-reads
-use Rattle.channel.proofs.letters.sole.Reads as sole-reads
 use Rattle.channel.proofs.single.land.Reads as land-reads
 use Rattle.channel.proofs.single.may_land.Reads as may-land-reads
 use Rattle.channel.proofs.single.no_flight.Reads as no-flight-reads

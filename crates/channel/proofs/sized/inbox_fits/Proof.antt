@@ -1,5 +1,5 @@
 use Rattle.channel.specs.Sized.{inboxFits}
-use Rattle.channel.specs.Letters.{letterAt}
+use Rattle.names.specs.Letters.{letterAt}
 use borrow.Author.Tests.{not-true, not-false}
 use mathlib.Core.Path.{_≡_, sym, _∙_}
 use borrow.Author.Needs.{needs}

@@ -1,10 +1,10 @@
-use Rattle.channel.specs.Letters.{kindOf}
+use Rattle.names.specs.Letters.{kindOf}
 use Rattle.lists.specs.Tests.{cases}
 use borrow.Author.Needs.{needs}
-use Rattle.channel.proofs.letters.kind_of.Statement.{statement}
-use Rattle.channel.proofs.letters.kind_of.Tie as tie
-use Rattle.channel.proofs.letters.kind_of.Reads as reads
-use Rattle.channel.proofs.letters.kind_of.Lts as lts
+use Rattle.names.proofs.letters.kind_of.Statement.{statement}
+use Rattle.names.proofs.letters.kind_of.Tie as tie
+use Rattle.names.proofs.letters.kind_of.Reads as reads
+use Rattle.names.proofs.letters.kind_of.Lts as lts
 
 enum-told : tie.Need-enum-told
 enum-told c = search needs
