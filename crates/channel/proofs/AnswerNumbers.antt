@@ -8,7 +8,7 @@ use native.Mathlib.Decide.{decLt, decLe}
 use borrow.Author.Tests.{lt-ltb, le-ltb, le-leb, lt-leb}
 use lib.Dec.{eqb, ltb, leb}
 use Rattle.lists.specs.Tests.{clash}
-use Rattle.channel.specs.declared.Letter.{Letter}
+use Rattle.names.specs.declared.Letter.{Letter}
 use Rattle.channel.specs.declared.Answer.{Answer}
 use Rattle.channel.specs.declared.Answer.the-variants.{Done, BadSize, IllSized, NoTask, NoCard, NoBroadcast, NoneInFlight, FarBehind, Crowded}
 use Rattle.channel.specs.Answers.{answerNumber, isDone}

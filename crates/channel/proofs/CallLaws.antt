@@ -11,14 +11,16 @@ use lib.ListN.{length}
 use Rattle.names.specs.declared.Card.{Card}
 use Rattle.names.specs.declared.Task.{Task}
 use Rattle.names.specs.declared.Message.{Message}
-use Rattle.channel.specs.declared.Letter.{Letter}
+use Rattle.names.specs.declared.Letter.{Letter}
 use Rattle.channel.specs.declared.Answer.{Answer}
 use Rattle.channel.specs.declared.Answer.the-variants.{NoCard}
 use Rattle.channel.specs.declared.Received.the-variants.{Got, NoSuchCard, Empty}
 use Rattle.channel.specs.State.{ChannelState, ChannelAction, dispatch, takeBroadcast, takeSingle, deliver, channelStep}
 use Rattle.channel.specs.Refusals.{otherwise, channelRefusal}
 use Rattle.channel.specs.Layout.{cardsOf, tasksOf, countOf, broadcastBlock, madeOf}
-use Rattle.channel.specs.Letters.{several, fits, letterAt}
+use Rattle.names.specs.CardSet.{several}
+use Rattle.names.specs.Letters.{letterAt}
+use Rattle.channel.specs.Letters.{fits}
 use Rattle.channel.specs.Answers.{answerNumber, receivedNumber, isDone}
 use Rattle.channel.specs.Inbox.{gotOf, popped, receiveAnswer, receiveMemory}
 use Rattle.channel.specs.TakeBroadcast.{takeAnswer, takeMemory}

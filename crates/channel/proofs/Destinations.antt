@@ -1,18 +1,16 @@
 -- The only card of a set that has one.
 use Prim.Native.Nat.{ℕ, _<_, _≤_, _/_, _^_}
 use mathlib.Core.Path.{_≡_, refl}
-use mathlib.Core.Logic.{_≢_}
 use mathlib.Core.Bool.{Bool, true, false, cond, _&&_}
 use native.Mathlib.Nat.{pow-le-pow-right, div-eq-of-lt}
 use native.Mathlib.Decide.{decLt}
 use native.Mathlib.Omega.{arith}
-use borrow.Author.Tests.{leb-true, ne-eqb}
-use lib.Dec.{eqb, leb}
+use borrow.Author.Tests.{leb-true}
+use lib.Dec.{leb}
 use Rattle.lists.specs.Tests.{clash, and-fst, and-snd}
 use Rattle.lists.specs.Loops.{turns, total}
 use Rattle.lists.specs.Every.{each, each-at}
-use Rattle.names.specs.CardSet.{memberOf, sizeOf}
-use Rattle.channel.specs.Letters.{single, several, soleOf}
+use Rattle.names.specs.CardSet.{memberOf, sizeOf, single, soleOf}
 
 -- tried on each set of the cards 0 to 7
 right : ℕ → Bool
@@ -41,18 +39,6 @@ module _ (to : ℕ) (small : to < 256) (one : single to ≡ true) where
           let a = leb-true (2 ^ soleOf to) to (and-snd (memberOf to (soleOf to)) _ sole-right) in
           let b : 2 ^ n ≤ 2 ^ soleOf to = pow-le-pow-right (omega arith) (omega arith) in
           absurd (omega arith)
-
--- a set of some of the cards 0 to 7 that has not several has one
-some-right : ℕ → Bool
-some-right to = cond (several to) true (cond (eqb to 0) true (single to))
-
-all-some-right : each 256 some-right ≡ true
-unfolding each some-right single several sizeOf total turns
-all-some-right = refl
-
-pub single-of : (to : ℕ) → to < 256 → 1 ≤ to → several to ≡ false → single to ≡ true
-unfolding some-right
-single-of to h p e = let n : to ≢ 0 = omega arith in rw (e, ne-eqb to 0 n) at (each-at 256 some-right all-some-right to h)
 
 -- a card of a set of present cards is present
 pub member-present : (to n j : ℕ) → to < 2 ^ n → memberOf to j ≡ true → j < n

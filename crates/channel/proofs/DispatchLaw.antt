@@ -12,12 +12,13 @@ use Rattle.lists.specs.Every.{each, each-cong}
 use Rattle.lists.specs.Tests.{and-fst}
 use Rattle.names.specs.declared.Card.{Card}
 use Rattle.names.specs.declared.Message.{Message}
-use Rattle.channel.specs.declared.Letter.{Letter}
+use Rattle.names.specs.declared.Letter.{Letter}
 use Rattle.channel.specs.declared.Answer.the-variants.{Done, IllSized, NoCard, FarBehind}
 use Rattle.channel.specs.State.{Tagged, ChannelState, dispatching}
 use Rattle.channel.specs.Refusals.{otherwise, broadcastRefusal, flightRefusal, dispatchRefusal}
 use Rattle.channel.specs.Layout.{cardsOf, tasksOf, madeOf, flightBlock}
-use Rattle.channel.specs.Letters.{several, fits}
+use Rattle.names.specs.CardSet.{several}
+use Rattle.channel.specs.Letters.{fits}
 use Rattle.channel.specs.Answers.{answerNumber, isDone}
 use Rattle.channel.specs.TakeSingle.{noFlight}
 use Rattle.channel.specs.Dispatch.{nearAt, near, castAnswer, castMemory, flyAnswer, flyMemory, letterOf, dispatchAnswer, dispatchMemory}

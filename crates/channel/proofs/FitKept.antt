@@ -10,10 +10,11 @@ use lib.Dec.{eqb}
 use lib.ListN.{length}
 use Rattle.lists.specs.Tests.{clash}
 use Rattle.lists.specs.Conjunctions.{and-three}
-use Rattle.names.specs.CardSet.{memberOf}
-use Rattle.channel.specs.declared.Letter.{Letter}
+use Rattle.names.specs.CardSet.{memberOf, single, soleOf}
+use Rattle.names.specs.declared.Letter.{Letter}
 use Rattle.channel.specs.Layout.{madeWord, flightBlock, cardsOf, madeOf}
-use Rattle.channel.specs.Letters.{letterAt, single, soleOf, fits}
+use Rattle.names.specs.Letters.{letterAt}
+use Rattle.channel.specs.Letters.{fits}
 use Rattle.channel.specs.TakeSingle.{noFlight}
 use Rattle.channel.specs.Sized.{blockFits, flightFits, headFits}
 use Rattle.channel.proofs.Destinations.{sole-member, sole-present}

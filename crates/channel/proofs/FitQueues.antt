@@ -11,13 +11,14 @@ use lib.Dec.{ltb, leb}
 use lib.ListN.{length, getD}
 use Rattle.lists.specs.Tests.{and-snd, and-intro}
 use Rattle.lists.specs.Conjunctions.{and-five}
-use Rattle.names.specs.CardSet.{memberOf}
-use Rattle.channel.specs.declared.Letter.{Letter}
+use Rattle.names.specs.CardSet.{memberOf, single}
+use Rattle.names.specs.declared.Letter.{Letter}
 use Rattle.channel.specs.Layout.{inboxBlock, heldBlock, cardsOf, tasksOf, registersOf, headOf, countOf, placeOf}
-use Rattle.channel.specs.Letters.{letterAt, kindAt, stored, single, known, addressed, fits}
+use Rattle.names.specs.Letters.{letterAt, kindAt, stored, known}
+use Rattle.channel.specs.Letters.{addressed, fits}
 use Rattle.channel.specs.Inbox.{pushed, popped}
 use Rattle.channel.specs.Sized.{blockFits, inboxFits, heldFits}
-use Rattle.channel.proofs.Blocks.{letter-cong, letter-same}
+use Rattle.names.proofs.Blocks.{letter-cong, letter-same}
 use Rattle.channel.proofs.InboxRing.{pushed-word, pushed-count, pushed-head, pushed-block, popped-word, popped-count, popped-head}
 use Rattle.channel.proofs.Sending.{kind-some}
 use Rattle.channel.proofs.SizedFacts.{cards-most}

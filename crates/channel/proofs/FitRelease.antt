@@ -11,16 +11,17 @@ use lib.ListN.{length, getD}
 use lib.Seq.{getD-set-same}
 use Rattle.lists.specs.Loops.{turns}
 use Rattle.lists.specs.Conjunctions.{and-three}
-use Rattle.names.specs.CardSet.{memberOf}
-use Rattle.channel.specs.declared.Letter.{Letter}
+use Rattle.names.specs.CardSet.{memberOf, single}
+use Rattle.names.specs.declared.Letter.{Letter}
 use Rattle.channel.specs.State.{Tagged, released}
 use Rattle.channel.specs.Layout.{headWord, countWord, heldWord, heldBlock, countOf, heldCountOf}
-use Rattle.channel.specs.Letters.{letterAt, stored, single, fits}
+use Rattle.names.specs.Letters.{letterAt, stored}
+use Rattle.channel.specs.Letters.{fits}
 use Rattle.channel.specs.Inbox.{pushed}
 use Rattle.channel.specs.TakeBroadcast.{Sweep, sweeps, swept, releasedWords}
 use Rattle.channel.specs.Sized.{blockFits, heldFits}
 use Rattle.channel.specs.Shows.{heldOf}
-use Rattle.channel.proofs.Blocks.{word-other}
+use Rattle.names.proofs.Blocks.{word-other}
 use Rattle.channel.proofs.InboxRing.{pushed-word}
 use Rattle.channel.proofs.Release.{heldFirst, fewer, Swept, y, at-k, joins-is, stays-is, space, sweeps-swept, end, swept-all, released-is, release-word}
 use Rattle.channel.specs.MemoryCalls.{SameSizes}

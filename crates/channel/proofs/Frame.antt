@@ -7,13 +7,13 @@ use mathlib.Core.Option.{some}
 use native.Mathlib.Omega.{arith}
 use native.Mathlib.Decide.{decLt, ℕ-discrete}
 use lib.ListN.{length, getD}
-use Rattle.channel.specs.declared.Letter.{Letter}
+use Rattle.names.specs.declared.Letter.{Letter}
 use Rattle.channel.specs.State.{ChannelState, nth}
-use Rattle.channel.specs.Letters.{letterAt}
+use Rattle.names.specs.Letters.{letterAt}
 use Rattle.channel.specs.Layout.{takenWord, headWord, countWord, heldWord, flightBlock, broadcastBlock, cardsOf, tasksOf, madeOf, takenOf, headOf, countOf, heldCountOf}
 use Rattle.channel.specs.TakeSingle.{noFlight}
 use Rattle.channel.specs.Shows.{inboxOf, heldOf, flightOf, Shows}
-use Rattle.channel.proofs.Blocks.{letter-cong}
+use Rattle.names.proofs.Blocks.{letter-cong}
 use Rattle.channel.proofs.InboxRing.{tagged-cong, held-cong, ring-cong}
 use Rattle.channel.proofs.SizedFacts.{cards-most, cards-words, tasks-words}
 

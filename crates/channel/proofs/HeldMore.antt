@@ -9,12 +9,12 @@ use borrow.Author.Tests.{lt-ltb}
 use lib.ListN.{length, getD, set, length-set}
 use lib.Seq.{getD-set-same, getD-set-other}
 use Rattle.lists.specs.Listings.{listing}
-use Rattle.channel.specs.declared.Letter.{Letter}
+use Rattle.names.specs.declared.Letter.{Letter}
 use Rattle.channel.specs.Layout.{headWord, countWord, heldWord, heldBlock, headOf, countOf, heldCountOf}
-use Rattle.channel.specs.Letters.{stored}
+use Rattle.names.specs.Letters.{stored}
 use Rattle.channel.specs.TakeSingle.{heldMore}
 use Rattle.channel.specs.Shows.{taggedAt, inboxOf, heldOf}
-use Rattle.channel.proofs.Blocks.{word-other, letter-same, mark-same, length-stored}
+use Rattle.names.proofs.Blocks.{word-other, letter-same, mark-same, length-stored}
 use Rattle.channel.proofs.InboxRing.{tagged-cong, held-cong, ring-cong}
 
 module _ (ws : List ℕ) (i : ℕ) (l : Letter) (tag : ℕ) (card : i < 8) (long : length ws ≡ 4808) (room : heldCountOf ws i < 16) where

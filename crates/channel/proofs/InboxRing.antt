@@ -9,12 +9,12 @@ use borrow.Author.Tests.{lt-ltb, ne-eqb}
 use lib.ListN.{length, getD, set, length-set}
 use lib.Seq.{getD-set-same, getD-set-other}
 use Rattle.lists.specs.Listings.{listing, listing-snoc, listing-cons, listing-cong}
-use Rattle.channel.specs.declared.Letter.{Letter}
-use Rattle.channel.specs.Letters.{letterAt, stored}
+use Rattle.names.specs.declared.Letter.{Letter}
+use Rattle.names.specs.Letters.{letterAt, stored}
 use Rattle.channel.specs.Layout.{headWord, countWord, inboxBlock, heldBlock, headOf, countOf, placeOf}
 use Rattle.channel.specs.Inbox.{pushed, popped}
 use Rattle.channel.specs.Shows.{taggedAt, inboxOf}
-use Rattle.channel.proofs.Blocks.{word-other, letter-cong, letter-same, length-stored}
+use Rattle.names.proofs.Blocks.{word-other, letter-cong, letter-same, length-stored}
 
 -- ---- words that agree where they are read
 

@@ -1,4 +1,3 @@
-pub mod Blocks
 pub mod Release
 pub mod Frame
 pub mod Receiving

@@ -6,7 +6,7 @@ use mathlib.Core.List.{List, [], _∷_}
 use mathlib.Core.Bool.{true}
 use Rattle.lists.specs.Loops.{total, turns}
 use Rattle.lists.specs.Every.{each}
-use Rattle.names.specs.CardSet.{memberOf, sizeOf}
+use Rattle.names.specs.CardSet.{memberOf, sizeOf, several, soleOf}
 use Rattle.names.specs.declared.Card.{Card}
 use Rattle.names.specs.declared.Task.{Task}
 use Rattle.names.specs.declared.Message.{Message}
@@ -15,7 +15,8 @@ use Rattle.names.specs.declared.Body.the-variants.{ReadDo, UpdateDo, ReadReply}
 use Rattle.channel.specs.declared.Received.the-variants.{Got}
 use Rattle.channel.specs.Refusals.{channelRefusal}
 use Rattle.channel.specs.Layout.{cardsOf, tasksOf, registersOf}
-use Rattle.channel.specs.Letters.{several, soleOf, known, addressed, fits}
+use Rattle.names.specs.Letters.{known}
+use Rattle.channel.specs.Letters.{addressed, fits}
 use Rattle.channel.specs.Begin.{sizesFit, begun, beginMemory}
 use Rattle.channel.specs.Inbox.{receiveAnswer}
 use Rattle.channel.specs.MemoryCalls.{Call, dispatchCall, takeBroadcastCall, takeSingleCall, receiveCall, memoryAfter, answersAfter, callRefusal, refusalsAfter, RunFollows}

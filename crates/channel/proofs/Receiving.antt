@@ -9,12 +9,12 @@ use lib.Dec.{eqb, ltb}
 use lib.ListN.{length}
 use Rattle.lists.specs.Tests.{eqb-refl, eqb-not}
 use Rattle.lists.specs.Listings.{listing}
-use Rattle.channel.specs.declared.Letter.{Letter}
+use Rattle.names.specs.declared.Letter.{Letter}
 use Rattle.channel.specs.declared.Received.the-variants.{Got, NoSuchCard}
 use Rattle.channel.specs.State.{ChannelState, delivering}
 use Rattle.channel.specs.Refusals.{receiveRefusal}
 use Rattle.channel.specs.Layout.{inboxBlock, takenWord, heldWord, cardsOf, headOf, countOf, heldCountOf}
-use Rattle.channel.specs.Letters.{letterAt}
+use Rattle.names.specs.Letters.{letterAt}
 use Rattle.channel.specs.Answers.{receivedNumber}
 use Rattle.channel.specs.Inbox.{popped, gotOf, receiveAnswer, receiveMemory}
 use Rattle.channel.specs.MemoryCalls.{handedUp}

@@ -5,7 +5,7 @@ use mathlib.Core.Bool.{Bool, true, false, cond}
 use mathlib.Core.List.{List, [], _∷_}
 use lib.Dec.{eqb, ltb}
 use lib.ListN.{length}
-use Rattle.channel.specs.declared.Letter.{Letter}
+use Rattle.names.specs.declared.Letter.{Letter}
 use Rattle.channel.specs.declared.Received.the-variants.{NoSuchCard}
 use Rattle.channel.specs.State.{ChannelState, ChannelAction, dispatch, takeBroadcast, takeSingle, deliver, channelStep}
 use Rattle.channel.specs.Sized.{wellSized}
@@ -20,13 +20,14 @@ use Rattle.channel.proofs.CallLaws.{refused-is, call-follows}
 use Rattle.channel.proofs.CallsKeepPromise.{calls-promise}
 use Rattle.channel.proofs.CallsEvents.{calls-events}
 use Rattle.channel.proofs.CallsComplete.{calls-complete}
-use Rattle.channel.proofs.Destinations.{sole-present, single-of, member-present}
+use Rattle.names.proofs.CardSets.{single-of}
+use Rattle.channel.proofs.Destinations.{sole-present, member-present}
 use Rattle.channel.proofs.FitQueues.{fits-to, fits-small}
 use Rattle.channel.proofs.SizedDispatch.{fits-some}
 use Rattle.channel.specs.AtRest.{GoesToCards}
-use Rattle.channel.specs.Letters.{several, soleOf, fits}
+use Rattle.names.specs.CardSet.{several, soleOf, memberOf}
+use Rattle.channel.specs.Letters.{fits}
 use Rattle.channel.specs.Refusals.{otherwise}
-use Rattle.names.specs.CardSet.{memberOf}
 use Rattle.lists.specs.Tests.{clash, and-snd}
 use borrow.Author.Tests.{eqb-true, ltb-true}
 use native.Mathlib.Omega.{arith}
@@ -58,7 +59,7 @@ to-cards ms i l r j g = go (several (l .to)) refl g
     go true e h = member-present (l .to) (cardsOf ms) j (fits-to ms l f) h
     go false e h =
         let s = fits-small ms l f in
-        let p = sole-present (l .to) s (single-of (l .to) s (fits-some ms l f) e) (cardsOf ms) (fits-to ms l f) in
+        let p = sole-present (l .to) s (single-of (l .to) e) (cardsOf ms) (fits-to ms l f) in
         let q = eqb-true j (soleOf (l .to)) h in
         omega arith
 

@@ -14,13 +14,13 @@ use lib.Seq.{getD-set-same, getD-set-other}
 use Rattle.lists.specs.Tests.{eqb-refl, eqb-not}
 use Rattle.names.specs.declared.Body.{Body}
 use Rattle.names.specs.declared.Body.the-variants.{ReadDo, UpdateDo, ReadReply, UpdateReply}
-use Rattle.channel.specs.declared.Letter.{Letter}
+use Rattle.names.specs.declared.Letter.{Letter}
 use Rattle.channel.specs.State.{ChannelState, nth, dispatching}
 use Rattle.channel.specs.Layout.{takenWord, madeWord, flightBlock, broadcastBlock, cardsOf, tasksOf, madeOf, takenOf}
-use Rattle.channel.specs.Letters.{letterAt, kindAt, kindOf, stored}
+use Rattle.names.specs.Letters.{letterAt, kindAt, kindOf, stored}
 use Rattle.channel.specs.TakeSingle.{noFlight}
 use Rattle.channel.specs.Shows.{letterMail, flightOf, Shows}
-use Rattle.channel.proofs.Blocks.{word-other, letter-cong, letter-same, mark-same, kind-same, length-stored}
+use Rattle.names.proofs.Blocks.{word-other, letter-cong, letter-same, mark-same, kind-same, length-stored}
 use Rattle.channel.proofs.SizedFacts.{Sized, cards-most, tasks-most, cards-words, tasks-words}
 use Rattle.channel.proofs.Frame.{inbox-words, held-words, sent-words, flight-words}
 use Rattle.channel.proofs.Places.{nth-last, nth-old}

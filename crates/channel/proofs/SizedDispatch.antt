@@ -15,19 +15,21 @@ use Rattle.lists.specs.Conjunctions.{and-five}
 use Rattle.lists.specs.Every.{each-at}
 use Rattle.names.specs.declared.Card.{Card}
 use Rattle.names.specs.declared.Message.{Message}
-use Rattle.channel.specs.declared.Letter.{Letter}
+use Rattle.names.specs.declared.Letter.{Letter}
 use Rattle.channel.specs.declared.Answer.the-variants.{Done, IllSized, FarBehind}
 use Rattle.channel.specs.Layout.{cardsWord, tasksWord, registersWord, madeWord, takenWord, flightBlock, broadcastBlock, cardsOf, tasksOf, registersOf, madeOf, takenOf}
-use Rattle.channel.specs.Letters.{stored, several, known, addressed, fits}
+use Rattle.names.specs.CardSet.{several}
+use Rattle.names.specs.Letters.{stored, known}
+use Rattle.channel.specs.Letters.{addressed, fits}
 use Rattle.channel.specs.Answers.{isDone}
 use Rattle.channel.specs.Begin.{sizesFit}
 use Rattle.channel.specs.TakeSingle.{noFlight}
 use Rattle.channel.specs.Dispatch.{nearAt, near, castAnswer, castMemory, flyAnswer, flyMemory, letterOf, dispatchMemory}
 use Rattle.channel.specs.Sized.{flightFits, broadcastFits, headFits}
-use Rattle.channel.proofs.Blocks.{word-other, length-stored}
+use Rattle.names.proofs.Blocks.{word-other, length-stored}
 use Rattle.channel.proofs.SizedFacts.{cards-most, tasks-most}
 use Rattle.channel.proofs.AnswerNumbers.{picked}
-use Rattle.channel.proofs.Destinations.{single-of}
+use Rattle.names.proofs.CardSets.{single-of}
 use Rattle.channel.proofs.DispatchLaw.{fits-task}
 use Rattle.channel.specs.MemoryCalls.{SameSizes}
 use Rattle.channel.proofs.WellSizedParts.{CardFit, Fit, same-cards, same-tasks, fits-same, flight-same, broadcast-same, card-same}
@@ -75,7 +77,7 @@ module _ (ws : List ℕ) (long : length ws ≡ 4808) (f : Fit ws) (l : Letter) (
           let fu : fits us l ≡ true = fits-same us ws sizes l ∙ g in
           let y = put-letter us ws (flightBlock t) l tag fu w (λ k r. refl) in
           let b = put-fits us ws (flightBlock t) l tag fu w (λ k r. refl) in
-          let o = single-of (l .to) (fits-small ws l g) (fits-some ws l g) alone in
+          let o = single-of (l .to) alone in
           rw e (or-intro (noFlight us t) (and-intro (and-intro b (rw y (eqb-refl t))) (rw y o)))
       go (no n) = flight-same us ws sizes d (λ a p q. word a (λ k r. omega arith)) ∙ f .flight d h
 

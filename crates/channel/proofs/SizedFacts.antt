@@ -6,7 +6,8 @@ use mathlib.Core.List.{List}
 use native.Mathlib.Omega.{arith}
 use lib.ListN.{length, getD}
 use Rattle.channel.specs.Layout.{cardsOf, tasksOf, registersOf, cardsWord, tasksWord, registersWord, madeOf, takenOf, countOf, heldCountOf, flightBlock}
-use Rattle.channel.specs.Letters.{letterAt, single, soleOf}
+use Rattle.names.specs.CardSet.{single, soleOf}
+use Rattle.names.specs.Letters.{letterAt}
 use Rattle.channel.specs.TakeSingle.{noFlight}
 
 pub cards-most : (ws : List ℕ) → cardsOf ws ≤ 8

@@ -8,12 +8,12 @@ use native.Mathlib.Omega.{arith}
 use lib.ListN.{length, getD, length-append}
 use Rattle.lists.specs.Tests.{and-fst}
 use Rattle.lists.specs.Queues.{push}
-use Rattle.names.specs.CardSet.{memberOf}
+use Rattle.names.specs.CardSet.{memberOf, several}
 use Rattle.names.specs.declared.Card.{Card}
-use Rattle.channel.specs.declared.Letter.{Letter}
+use Rattle.names.specs.declared.Letter.{Letter}
 use Rattle.channel.specs.State.{released}
 use Rattle.channel.specs.Layout.{takenWord, headWord, countWord, heldWord, broadcastBlock, cardsOf, madeOf, takenOf, headOf, countOf, heldCountOf}
-use Rattle.channel.specs.Letters.{several, fits}
+use Rattle.channel.specs.Letters.{fits}
 use Rattle.channel.specs.Inbox.{pushed}
 use Rattle.channel.specs.Answers.{isDone}
 use Rattle.channel.specs.TakeBroadcast.{releasedWords, joined, nextLetter, nextThere, takeAnswer, takeMemory}

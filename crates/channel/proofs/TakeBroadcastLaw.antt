@@ -13,12 +13,12 @@ use Rattle.lists.specs.Counts.{filter-listing}
 use Rattle.lists.specs.Listings.{listing-length}
 use Rattle.lists.specs.Queues.{push}
 use Rattle.names.specs.declared.Card.{Card}
-use Rattle.channel.specs.declared.Letter.{Letter}
+use Rattle.names.specs.declared.Letter.{Letter}
 use Rattle.channel.specs.declared.Answer.the-variants.{Done, IllSized, NoCard, NoBroadcast, Crowded}
 use Rattle.channel.specs.State.{Tagged, ChannelState, nth, released, taking}
 use Rattle.channel.specs.Refusals.{otherwise, takeRefusal}
 use Rattle.channel.specs.Layout.{heldBlock, placeOf, cardsOf, madeOf, takenOf, countOf, heldCountOf}
-use Rattle.channel.specs.Letters.{letterAt}
+use Rattle.names.specs.Letters.{letterAt}
 use Rattle.channel.specs.Answers.{answerNumber, isDone}
 use Rattle.channel.specs.TakeBroadcast.{readyAt, releasableOf, broadcastAt, broadcastsOf, nextLetter, nextThere, roomAnswer, takeAnswer, takeMemory}
 use Rattle.channel.specs.Shows.{letterMail, taggedAt, inboxOf, heldOf, Shows}

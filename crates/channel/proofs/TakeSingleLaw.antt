@@ -8,12 +8,12 @@ use native.Mathlib.Omega.{arith}
 use borrow.Author.Tests.{ltb-true, leb-false}
 use lib.Dec.{eqb, ltb, leb}
 use Rattle.names.specs.declared.Task.{Task}
-use Rattle.channel.specs.declared.Letter.{Letter}
+use Rattle.names.specs.declared.Letter.{Letter}
 use Rattle.channel.specs.declared.Answer.the-variants.{Done, IllSized, NoTask, NoneInFlight}
 use Rattle.channel.specs.State.{Tagged, ChannelState, arriving}
 use Rattle.channel.specs.Refusals.{otherwise, singleRefusal}
 use Rattle.channel.specs.Layout.{flightBlock, cardsOf, tasksOf, countOf, heldCountOf}
-use Rattle.channel.specs.Letters.{single}
+use Rattle.names.specs.CardSet.{single}
 use Rattle.channel.specs.Answers.{answerNumber, isDone}
 use Rattle.channel.specs.TakeSingle.{noFlight, flightLetter, flightTag, flightTo, joinsAt, landAnswer, singleAnswer, singleMemory}
 use Rattle.channel.specs.Shows.{letterMail, taggedAt, flightOf, Shows}

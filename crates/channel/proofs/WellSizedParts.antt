@@ -10,13 +10,14 @@ use lib.ListN.{getD}
 use Rattle.lists.specs.Tests.{and-intro}
 use Rattle.lists.specs.Conjunctions.{and-three, and-four, and-five}
 use Rattle.lists.specs.Every.{each, each-at, each-of}
-use Rattle.channel.specs.declared.Letter.{Letter}
+use Rattle.names.specs.declared.Letter.{Letter}
 use Rattle.channel.specs.Layout.{takenWord, headWord, countWord, heldWord, heldBlock, flightBlock, broadcastBlock, cardsOf, tasksOf, madeOf, takenOf, headOf, countOf, heldCountOf, placeOf}
-use Rattle.channel.specs.Letters.{letterAt, kindAt, addressed, fits}
+use Rattle.names.specs.Letters.{letterAt, kindAt}
+use Rattle.channel.specs.Letters.{addressed, fits}
 use Rattle.channel.specs.TakeSingle.{noFlight}
 use Rattle.channel.specs.Sized.{blockFits, inboxFits, heldFits, flightFits, broadcastFits, countsFit, cardFits, recentFits, headFits, wellSized}
 use Rattle.channel.specs.MemoryCalls.{SameSizes}
-use Rattle.channel.proofs.Blocks.{letter-cong}
+use Rattle.names.proofs.Blocks.{letter-cong}
 use Rattle.channel.proofs.SizedFacts.{cards-words, tasks-words, registers-words}
 
 -- card i's part, where m broadcasts are made

@@ -8,12 +8,14 @@ use lib.ListN.{set}
 use Rattle.lists.specs.Every.{each}
 use Rattle.names.specs.declared.Card.{Card}
 use Rattle.names.specs.declared.Message.{Message}
-use Rattle.channel.specs.declared.Letter.{Letter}
+use Rattle.names.specs.declared.Letter.{Letter}
 use Rattle.channel.specs.declared.Answer.{Answer}
 use Rattle.channel.specs.declared.Answer.the-variants.{Done, IllSized, NoCard, FarBehind}
 use Rattle.channel.specs.Answers.{isDone}
 use Rattle.channel.specs.Layout.{madeWord, cardsOf, madeOf, takenOf, broadcastBlock, flightBlock}
-use Rattle.channel.specs.Letters.{stored, several, fits}
+use Rattle.names.specs.CardSet.{several}
+use Rattle.names.specs.Letters.{stored}
+use Rattle.channel.specs.Letters.{fits}
 use Rattle.channel.specs.TakeSingle.{noFlight}
 
 -- one broadcast more leaves card i at most 64 behind

@@ -5,11 +5,11 @@ use mathlib.Core.List.{List}
 use lib.Dec.{eqb, ltb}
 use lib.ListN.{set}
 use Rattle.names.specs.declared.Card.{Card}
-use Rattle.channel.specs.declared.Letter.{Letter}
+use Rattle.names.specs.declared.Letter.{Letter}
 use Rattle.channel.specs.declared.Received.{Received}
 use Rattle.channel.specs.declared.Received.the-variants.{Got, NoSuchCard, Empty}
 use Rattle.channel.specs.Layout.{headWord, countWord, cardsOf, headOf, countOf, inboxBlock, placeOf}
-use Rattle.channel.specs.Letters.{letterAt, stored}
+use Rattle.names.specs.Letters.{letterAt, stored}
 
 -- one letter more at the end of card i's inbox, where there is room
 unfoldable pub pushed : List ℕ → ℕ → Letter → List ℕ

@@ -1,89 +1,11 @@
--- A letter, that is a message with its sender and its destinations, in a block of eight words: kind, task, register, function, value,
--- sender, destinations, tag. An empty flight slot has kind 0.
-use Prim.Native.Nat.{ℕ, _+_, _*_, _^_}
-use mathlib.Core.Bool.{Bool, true, cond, _&&_}
+-- Letters whose fields the channel can serve. An empty flight slot has kind 0 in its block.
+use Prim.Native.Nat.{ℕ, _^_}
+use mathlib.Core.Bool.{Bool, _&&_}
 use mathlib.Core.List.{List}
-use lib.Dec.{eqb, ltb, leb}
-use lib.ListN.{getD, set}
-use Rattle.lists.specs.Loops.{total}
-use Rattle.names.specs.CardSet.{bitOf, sizeOf}
-use Rattle.names.specs.declared.Body.{Body}
-use Rattle.names.specs.declared.Body.the-variants.{ReadDo, UpdateDo, ReadReply, UpdateReply}
-use Rattle.channel.specs.declared.Letter.{Letter}
+use lib.Dec.{ltb, leb}
+use Rattle.names.specs.declared.Letter.{Letter}
+use Rattle.names.specs.Letters.{known}
 use Rattle.channel.specs.Layout.{cardsOf, tasksOf, registersOf}
-
-unfoldable pub bodyOf : ℕ → ℕ → ℕ → Body
-bodyOf k f v = cond (eqb k 1) ReadDo (cond (eqb k 2) (UpdateDo f v) (cond (eqb k 3) (ReadReply v) UpdateReply))
-
-unfoldable pub kindOf : Body → ℕ
-kindOf ReadDo = 1
-kindOf (UpdateDo f v) = 2
-kindOf (ReadReply v) = 3
-kindOf UpdateReply = 4
-
-unfoldable pub functionOf : Body → ℕ
-functionOf ReadDo = 0
-functionOf (UpdateDo f v) = f
-functionOf (ReadReply v) = 0
-functionOf UpdateReply = 0
-
-unfoldable pub valueOf : Body → ℕ
-valueOf ReadDo = 0
-valueOf (UpdateDo f v) = v
-valueOf (ReadReply v) = v
-valueOf UpdateReply = 0
-
--- the kind in block b
-abbrev pub kindAt : List ℕ → ℕ → ℕ
-kindAt ws b = getD ws (b * 8) 0
-
--- the tag in block b
-abbrev pub tagAt : List ℕ → ℕ → ℕ
-tagAt ws b = getD ws (b * 8 + 7) 0
-
--- the letter in block b
-unfoldable pub letterAt : List ℕ → ℕ → Letter
-letterAt ws b = record {
-  message = record {
-    task = record { 0 = getD ws (b * 8 + 1) 0 };
-    register = record { 0 = getD ws (b * 8 + 2) 0 };
-    body = bodyOf (kindAt ws b) (getD ws (b * 8 + 3) 0) (getD ws (b * 8 + 4) 0);
-  };
-  from = record { 0 = getD ws (b * 8 + 5) 0 };
-  to = getD ws (b * 8 + 6) 0;
-}
-
--- block b with a letter and a tag
-unfoldable pub stored : List ℕ → ℕ → Letter → ℕ → List ℕ
-stored ws b l t =
-    set (set (set (set (set (set (set (set ws
-    (b * 8) (kindOf (l .message .body)))
-    (b * 8 + 1) (l .message .task .0))
-    (b * 8 + 2) (l .message .register .0))
-    (b * 8 + 3) (functionOf (l .message .body)))
-    (b * 8 + 4) (valueOf (l .message .body)))
-    (b * 8 + 5) (l .from .0))
-    (b * 8 + 6) (l .to))
-    (b * 8 + 7) t
-
--- "More than one destination"
-unfoldable pub several : ℕ → Bool
-several to = ltb 1 (sizeOf to)
-
--- "One destination"
-unfoldable pub single : ℕ → Bool
-single to = eqb (sizeOf to) 1
-
--- the destination where there is one: the sum of the destinations' numbers
-unfoldable pub soleOf : ℕ → ℕ
-soleOf to = total (λ i. i * bitOf to i) 8
-
--- "an unknown function": functions are 1 to 4
-unfoldable pub known : Body → Bool
-known ReadDo = true
-known (UpdateDo f v) = leb 1 f && leb f 4
-known (ReadReply v) = true
-known UpdateReply = true
 
 -- there is a destination, and each is a present card
 unfoldable pub addressed : List ℕ → ℕ → Bool

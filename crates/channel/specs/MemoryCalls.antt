@@ -10,13 +10,14 @@ use lib.ListN.{length, getD}
 use Rattle.names.specs.declared.Card.{Card}
 use Rattle.names.specs.declared.Task.{Task}
 use Rattle.names.specs.declared.Message.{Message}
-use Rattle.channel.specs.declared.Letter.{Letter}
+use Rattle.names.specs.declared.Letter.{Letter}
 use Rattle.channel.specs.declared.Received.{Received}
 use Rattle.channel.specs.declared.Received.the-variants.{Got, NoSuchCard, Empty}
 use Rattle.channel.specs.State.{ChannelState, initialChannel, ChannelAction, dispatch, takeBroadcast, takeSingle, deliver, channelStep}
 use Rattle.channel.specs.Refusals.{otherwise, channelRefusal}
 use Rattle.channel.specs.Layout.{cardsWord, tasksWord, registersWord, cardsOf, tasksOf, registersOf, madeOf, takenBy}
-use Rattle.channel.specs.Letters.{letterAt, fits}
+use Rattle.names.specs.Letters.{letterAt}
+use Rattle.channel.specs.Letters.{fits}
 use Rattle.channel.specs.Answers.{answerNumber, receivedNumber}
 use Rattle.channel.specs.Begin.{sizesFit, beginAnswer, beginMemory}
 use Rattle.channel.specs.Inbox.{receiveAnswer, receiveMemory}

@@ -6,12 +6,12 @@ use mathlib.Core.List.{List}
 use mathlib.Core.Option.{Option, none, some}
 use lib.ListN.{length}
 use Rattle.lists.specs.Listings.{listing, ring}
-use Rattle.names.specs.CardSet.{memberOf}
-use Rattle.channel.specs.declared.Letter.{Letter}
+use Rattle.names.specs.CardSet.{memberOf, several, soleOf}
+use Rattle.names.specs.declared.Letter.{Letter}
 use Rattle.channel.specs.Mail.{Mail}
 use Rattle.channel.specs.State.{Tagged, ChannelState, nth}
 use Rattle.channel.specs.Layout.{inboxBlock, heldBlock, flightBlock, broadcastBlock, cardsOf, tasksOf, madeOf, takenOf, headOf, countOf, heldCountOf}
-use Rattle.channel.specs.Letters.{letterAt, tagAt, several, soleOf}
+use Rattle.names.specs.Letters.{letterAt, tagAt}
 use Rattle.channel.specs.TakeSingle.{noFlight}
 
 -- what the channel reads off a letter

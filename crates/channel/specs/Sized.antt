@@ -8,9 +8,10 @@ use mathlib.Core.List.{List}
 use lib.Dec.{eqb, ltb, leb}
 use lib.ListN.{getD}
 use Rattle.lists.specs.Every.{each}
-use Rattle.names.specs.CardSet.{memberOf}
+use Rattle.names.specs.CardSet.{memberOf, several, single}
 use Rattle.channel.specs.Layout.{cardsWord, tasksWord, registersWord, cardsOf, tasksOf, madeOf, takenOf, headOf, countOf, heldCountOf, placeOf, heldBlock, flightBlock, broadcastBlock}
-use Rattle.channel.specs.Letters.{letterAt, kindAt, several, single, fits}
+use Rattle.names.specs.Letters.{letterAt, kindAt}
+use Rattle.channel.specs.Letters.{fits}
 use Rattle.channel.specs.Begin.{sizesFit}
 use Rattle.channel.specs.TakeSingle.{noFlight}
 

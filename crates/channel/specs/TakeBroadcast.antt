@@ -6,14 +6,14 @@ use mathlib.Core.List.{List}
 use lib.Dec.{eqb, ltb, leb}
 use lib.ListN.{set}
 use Rattle.lists.specs.Loops.{turns, total}
-use Rattle.names.specs.CardSet.{memberOf}
+use Rattle.names.specs.CardSet.{memberOf, several}
 use Rattle.names.specs.declared.Card.{Card}
-use Rattle.channel.specs.declared.Letter.{Letter}
+use Rattle.names.specs.declared.Letter.{Letter}
 use Rattle.channel.specs.declared.Answer.{Answer}
 use Rattle.channel.specs.declared.Answer.the-variants.{Done, IllSized, NoCard, NoBroadcast, Crowded}
 use Rattle.channel.specs.Answers.{isDone}
 use Rattle.channel.specs.Layout.{takenWord, heldWord, cardsOf, madeOf, takenOf, countOf, heldCountOf, placeOf, heldBlock, broadcastBlock}
-use Rattle.channel.specs.Letters.{letterAt, tagAt, stored, several}
+use Rattle.names.specs.Letters.{letterAt, tagAt, stored}
 use Rattle.channel.specs.Inbox.{pushed}
 
 -- 1 where held message k of card i waits for broadcast n, else 0

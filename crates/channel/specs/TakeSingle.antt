@@ -6,12 +6,13 @@ use mathlib.Core.List.{List}
 use lib.Dec.{eqb, ltb, leb}
 use lib.ListN.{set}
 use Rattle.names.specs.declared.Task.{Task}
-use Rattle.channel.specs.declared.Letter.{Letter}
+use Rattle.names.specs.declared.Letter.{Letter}
 use Rattle.channel.specs.declared.Answer.{Answer}
 use Rattle.channel.specs.declared.Answer.the-variants.{Done, IllSized, NoTask, NoneInFlight}
 use Rattle.channel.specs.Answers.{isDone}
 use Rattle.channel.specs.Layout.{heldWord, tasksOf, takenOf, countOf, heldCountOf, heldBlock, flightBlock}
-use Rattle.channel.specs.Letters.{letterAt, kindAt, tagAt, stored, single, soleOf}
+use Rattle.names.specs.CardSet.{single, soleOf}
+use Rattle.names.specs.Letters.{letterAt, kindAt, tagAt, stored}
 use Rattle.channel.specs.Inbox.{pushed}
 
 -- task t has nothing in flight

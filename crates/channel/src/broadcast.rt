@@ -19,12 +19,11 @@ use super::layout::capped;
 use super::layout::cards;
 use super::layout::wide;
 use super::letters::load;
-use super::letters::several;
 use super::letters::store;
 use crate::Answer;
-use crate::Letter;
 use names::BroadcastNumber;
 use names::Card;
+use names::Letter;
 
 // 1 where the held message k of card i waits for broadcast n, else 0.
 fn ready(memory: &[u32; 4808], i: usize, n: u32, k: usize) -> usize
@@ -98,7 +97,7 @@ fn broadcast_at(memory: &[u32; 4808], i: usize, k: u32) -> usize
 {
     let head = memory[FIRST + i * PART + HEAD];
     let block = INBOX + i * BLOCKS + ((head % 48 + k) % 48) as usize;
-    if several(memory[block * 8 + 6]) {
+    if names::several(memory[block * 8 + 6]) {
         return 1;
     }
     0

@@ -11,10 +11,10 @@ use super::layout::PART;
 use super::layout::cards;
 use super::letters::load;
 use super::letters::store;
-use crate::Letter;
 use crate::Received;
 use names::BroadcastNumber;
 use names::Card;
+use names::Letter;
 
 // One letter more at the end of a card's inbox; nothing changes where there is no room.
 pub(crate) fn push(memory: &mut [u32; 4808], i: usize, letter: Letter)
@@ -30,6 +30,21 @@ pub(crate) fn push(memory: &mut [u32; 4808], i: usize, letter: Letter)
     let block = INBOX + i * BLOCKS + ((head % 48 + count) % 48) as usize;
     store(memory, block, letter, BroadcastNumber(0));
     memory[at + COUNT] = count + 1;
+}
+
+// The message of the first letter of a card's inbox.
+fn first(memory: &[u32; 4808], i: usize) -> Received
+    requires { ⌜ i < 8 ⌝ }
+    ensures { λ r. ⌜ r ≡ gotOf (now (memory .entry)) i ⌝ }
+{
+    let at = FIRST + i * PART;
+    let head = memory[at + HEAD];
+    if memory[at + COUNT] == 0 {
+        return Received::Empty;
+    }
+    let letter = load(memory, INBOX + i * BLOCKS + (head % 48) as usize);
+    let message = letter.message;
+    Received::Got(message)
 }
 
 // The first letter of a card's inbox leaves it.
@@ -50,6 +65,16 @@ fn pop(memory: &mut [u32; 4808], i: usize) -> Received
     memory[at + COUNT] = count - 1;
     let message = letter.message;
     Received::Got(message)
+}
+
+// The message at the head of a card's inbox, which stays there: what `receive` would hand up.
+pub fn head(memory: &[u32; 4808], card: Card) -> Received
+    ensures { λ r. ⌜ r ≡ receiveAnswer (now (memory .entry)) card ⌝ }
+{
+    if cards(memory) <= card.0 {
+        return Received::NoSuchCard;
+    }
+    first(memory, card.0 as usize)
 }
 
 // The channel's part of step 9: the head of the card's inbox leaves it.

@@ -1,6 +1,5 @@
 // The context multicast channel between cards (000 §4 and §6): broadcasts, single messages in flight and held, and inboxes, in one array
 // of words that the caller lends. specs/Layout says where each thing lies.
-use names::Card;
 use names::Message;
 
 mod answers;
@@ -13,6 +12,7 @@ mod single;
 mod sized;
 
 pub use broadcast::take_broadcast;
+pub use inbox::head;
 pub use inbox::receive;
 pub use layout::begin;
 pub use layout::cards;
@@ -20,16 +20,10 @@ pub use layout::made;
 pub use layout::registers;
 pub use layout::taken;
 pub use layout::tasks;
+pub use letters::fits;
 pub use send::dispatch;
 pub use single::take_single;
 pub use sized::well_sized;
-
-// A message with its sender and its destinations, a set of cards.
-pub struct Letter {
-    pub message: Message,
-    pub from: Card,
-    pub to: u32,
-}
 
 // What a call answers; `answerNumber` gives document 01's number of each.
 pub enum Answer {

@@ -10,13 +10,12 @@ use super::layout::RECENT;
 use super::layout::cards;
 use super::layout::wide;
 use super::letters::fits;
-use super::letters::several;
 use super::letters::store;
 use super::single::no_flight;
 use crate::Answer;
-use crate::Letter;
 use names::BroadcastNumber;
 use names::Card;
+use names::Letter;
 use names::Message;
 
 // Whether one broadcast more leaves card i at most 64 behind.
@@ -103,7 +102,7 @@ pub fn dispatch(memory: &mut [u32; 4808], card: Card, message: Message, destinat
         from: card,
         to: destinations,
     };
-    if several(destinations) {
+    if names::several(destinations) {
         return cast(memory, letter);
     }
     fly(memory, i, letter)

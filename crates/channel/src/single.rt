@@ -13,12 +13,10 @@ use super::layout::KEPT;
 use super::layout::PART;
 use super::layout::tasks;
 use super::letters::load;
-use super::letters::single;
-use super::letters::sole;
 use super::letters::store;
 use crate::Answer;
-use crate::Letter;
 use names::BroadcastNumber;
+use names::Letter;
 use names::Task;
 
 // Whether task t has nothing in flight.
@@ -83,10 +81,10 @@ pub fn take_single(memory: &mut [u32; 4808], task: Task) -> Answer
     }
     let letter = load(memory, FLIGHT + t);
     let tag = memory[(FLIGHT + t) * 8 + 7];
-    if !single(letter.to) {
+    if !names::single(letter.to) {
         return Answer::IllSized;
     }
-    let i = sole(letter.to) as usize;
+    let i = names::sole(letter.to) as usize;
     let joins = tag <= memory[FIRST + i * PART];
     let answer = may_land(memory, i, joins);
     if done(answer) {

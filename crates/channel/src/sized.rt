@@ -25,8 +25,6 @@ use super::layout::tasks;
 use super::layout::wide;
 use super::letters::fits;
 use super::letters::load;
-use super::letters::several;
-use super::letters::single;
 use super::single::no_flight;
 use names::Card;
 
@@ -70,7 +68,7 @@ fn held_fits(memory: &[u32; 4808], i: usize, k: usize) -> bool
         return false;
     }
     let to = memory[block * 8 + 6];
-    if !single(to) {
+    if !names::single(to) {
         return false;
     }
     names::member(to, Card(i as u32))
@@ -91,7 +89,7 @@ fn flight_fits(memory: &[u32; 4808], t: usize) -> bool
     if wide(memory[block * 8 + 1]) != t {
         return false;
     }
-    single(memory[block * 8 + 6])
+    names::single(memory[block * 8 + 6])
 }
 
 // Whether broadcast n is in order.
@@ -102,7 +100,7 @@ fn broadcast_fits(memory: &[u32; 4808], n: u32) -> bool
     if !block_fits(memory, block) {
         return false;
     }
-    several(memory[block * 8 + 6])
+    names::several(memory[block * 8 + 6])
 }
 
 // Whether card i's counts are in order.

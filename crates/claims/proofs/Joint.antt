@@ -14,12 +14,13 @@ use Rattle.channel.specs.TotalOrder.{rank}
 use Rattle.lists.specs.Histories.{Any, any-map}
 use Rattle.lists.specs.HistoryMaps.{any-into, any-out, at-into, at-out}
 use Rattle.lists.specs.Tests.{eqb-refl}
-use Rattle.names.specs.CardSet.{single, soleOf}
+use Rattle.names.specs.CardSet.{soleOf}
 use Rattle.names.specs.Placement.{Placement, holders, placementRefusal}
 use Rattle.registers.proofs.Fresh.{fresh-dispatch}
 use Rattle.registers.proofs.Ordered.{ordered}
 use Rattle.registers.specs.Events.{Dispatches}
 use Rattle.registers.specs.Layer.{Event, Msg, Precondition, Valid, World, ask, from, reply, run, to, view}
+use Rattle.names.proofs.CardSets.{single-of}
 use Rattle.claims.proofs.CardSets.{only}
 use Rattle.claims.specs.Ledger.{Op, mailOf, target, wide, worldOf}
 use Rattle.registers.specs.Layer as R
@@ -105,7 +106,7 @@ module _ (P : Placement) (ok : placementRefusal P ≡ 0) (ops : List Op) (chosen
   narrow (ask k) e i = go (W .upd k) refl
     where
       go : (t : Bool) → W .upd k ≡ t → cond t (W .copy (W .reg k) i) (eqb i (W .chosen k)) ≡ eqb i (cond t (soleOf (holders P (W .reg k))) (W .chosen k))
-      go true u = only P ok (W .reg k) (not-false (single (holders P (W .reg k))) (rw u at e)) i
+      go true u = only P ok (W .reg k) (single-of (holders P (W .reg k)) (rw u at e)) i
       go false u = refl
   narrow (reply k) e i = refl
 

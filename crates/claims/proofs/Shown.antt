@@ -15,6 +15,7 @@ use Rattle.names.specs.Placement.{Placement, copy, holders, home, placementRefu
 use Rattle.names.specs.Update.{updated}
 use Rattle.names.specs.declared.Body.the-variants.{ReadDo, ReadReply, UpdateDo, UpdateReply}
 use Rattle.registers.specs.Layer.{Msg, State, Status, ask, reply, to}
+use Rattle.names.proofs.CardSets.{not-several}
 use Rattle.claims.proofs.CardSets.{cards-low, copy-member, home-low, just-member, just-single, just-sole}
 use Rattle.claims.proofs.Executions.{Execution}
 use Rattle.claims.proofs.LedgerValues.{Values, values}
@@ -128,8 +129,8 @@ module _ (P : Placement) (ok : placementRefusal P ≡ 0) (ds : List Action) (f :
         where
           go : (o : Op) (t : Bool) → several (cond t (holders P (o .reg)) (justOf (Option·getD (b .chosen k) 0))) ≡ (t && several (holders P (o .reg)))
           go o true = refl
-          go o false = ap not (just-single (Option·getD (b .chosen k) 0) (asked-low k))
-      multi= (reply k) = ap not (just-single (home P ((opAt (b .ops) k) .task)) (home-low P ok ((opAt (b .ops) k) .task)))
+          go o false = not-several _ (just-single (Option·getD (b .chosen k) 0) (asked-low k))
+      multi= (reply k) = not-several _ (just-single (home P ((opAt (b .ops) k) .task)) (home-low P ok ((opAt (b .ops) k) .task)))
 
       dest= : (m : Msg) → mail .dest (h m) ≡ (mailOf P (world P b)) .dest m
       dest= (ask k) = go (opAt (b .ops) k) ((opAt (b .ops) k) .upd)

@@ -12,10 +12,11 @@ use native.Mathlib.Omega.{arith}
 use Rattle.channel.specs.Refusals.{otherwise}
 use Rattle.lists.specs.Histories.{Suf, back, stop, suf-trans}
 use Rattle.lists.specs.Tests.{and-fst, and-snd, eqb-not, eqb-of}
-use Rattle.names.specs.CardSet.{several, single}
+use Rattle.names.specs.CardSet.{several}
 use Rattle.names.specs.Placement.{Placement, copy, holders, home, placementRefusal}
 use Rattle.registers.specs.Layer.{Msg, Status}
-use Rattle.claims.proofs.CardSets.{only, some-card}
+use Rattle.names.proofs.CardSets.{single-of}
+use Rattle.claims.proofs.CardSets.{not-true, only, some-card}
 use Rattle.claims.proofs.Executions.{Enabled, Execution}
 use Rattle.claims.specs.Command.{Command}
 use Rattle.claims.specs.Ledger.{Action, Ledger, Op, about, answeredOf, headed, ledger, ledgerRefusal, mailOf, noted, notes, opAt, paper, paperFrom, plan, readOp, stageOf, updateOp, world}
@@ -42,7 +43,7 @@ module _ (P : Placement) (ok : placementRefusal P ≡ 0) where
   -- the only holder
   sole-is : (x i : ℕ) → alone P x i ≡ true → (j : ℕ) → copy P x j ≡ true → j ≡ i
   sole-is x i e j c =
-      let n = not-false (single (holders P x)) (not-true (several (holders P x)) (and-snd (copy P x i) _ e)) in
+      let n = single-of (holders P x) (not-true (several (holders P x)) (and-snd (copy P x i) _ e)) in
       eqb-true _ _ (sym (only P ok x n j) ∙ c) ∙ sym (eqb-true _ _ (sym (only P ok x n i) ∙ and-fst (copy P x i) _ e))
 
   request-taken : (b : Ledger) (o : Op) (n : ℕ) (s : Status) → b .layer .status (o .task) ≡ s → requestRefusal n (stageOf (b .ops) s) ≡ 0 → Enabled P b (Action.request o)

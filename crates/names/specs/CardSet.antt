@@ -21,7 +21,7 @@ unfoldable pub single : ℕ → Bool
 single set = eqb (sizeOf set) 1
 
 -- "More than one destination", of a set that is not empty
-abbrev pub several : ℕ → Bool
+unfoldable pub several : ℕ → Bool
 several set = not (single set)
 
 -- the only card, of a set that has one: the sum of its cards' numbers

@@ -2,3 +2,4 @@ pub mod CardSet
 pub mod Update
 pub mod Placement
 pub mod Step
+pub mod Letters

@@ -1,9 +1,10 @@
 // The vocabulary that the channel, the registers and the run files share: cards, tasks, registers and broadcast numbers as types of
 // their own, messages between cards, sets of cards, and what the functions of an update do.
 ghost use mathlib.Core.Path.{_≡_};
-ghost use Rattle.names.specs.CardSet.{memberOf, sizeOf};
+ghost use Rattle.names.specs.CardSet.{memberOf, sizeOf, several, single, soleOf};
 ghost use Rattle.names.specs.Update.{sumOf, largerOf, updated};
 
+pub mod letters;
 pub mod placement;
 
 // A card (000: site), numbered from 0.
@@ -37,6 +38,13 @@ pub struct Message {
     pub body: Body,
 }
 
+// A message with its sender and its destinations, a set of cards.
+pub struct Letter {
+    pub message: Message,
+    pub from: Card,
+    pub to: u32,
+}
+
 // What a step answers: 0 where it is taken, else its refusal; and the value that a taken report of a read gives, else 0.
 pub struct Answer {
     pub result: u8,
@@ -66,6 +74,33 @@ pub fn size(set: u32) -> u32
         + set / 32 % 2
         + set / 64 % 2
         + set / 128 % 2
+}
+
+// Whether a set that is not empty has more cards than one.
+pub fn several(set: u32) -> bool
+    ensures { λ r. ⌜ r ≡ several set ⌝ }
+{
+    !single(set)
+}
+
+// Whether a set has one card.
+pub fn single(set: u32) -> bool
+    ensures { λ r. ⌜ r ≡ single set ⌝ }
+{
+    size(set) == 1
+}
+
+// The only card, of a set that has one.
+pub fn sole(set: u32) -> u32
+    ensures { λ r. ⌜ r ≡ soleOf set ⌝ }
+{
+    set / 2 % 2
+        + set / 4 % 2 * 2
+        + set / 8 % 2 * 3
+        + set / 16 % 2 * 4
+        + set / 32 % 2 * 5
+        + set / 64 % 2 * 6
+        + set / 128 % 2 * 7
 }
 
 // Function 2.

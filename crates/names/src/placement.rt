@@ -40,7 +40,7 @@ pub fn sizes_in_range(cards: usize, registers: usize, tasks: usize) -> bool
 }
 
 // Whether each card of a set is one of the cards 0 to cards - 1.
-fn all_present(set: u32, cards: u32) -> bool
+pub fn all_present(set: u32, cards: u32) -> bool
     ensures { λ r. ⌜ r ≡ ltb set (2 ^ cards) ⌝ }
 {
     if 32 <= cards {

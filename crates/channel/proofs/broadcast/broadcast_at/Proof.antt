@@ -1,7 +1,7 @@
 use mathlib.Core.Path.{sym, _∙_}
 use native.Mathlib.Omega.{arith}
 use borrow.Author.Needs.{needs}
-use Rattle.channel.specs.Letters.{letterAt}
+use Rattle.names.specs.Letters.{letterAt}
 use Rattle.channel.specs.TakeBroadcast.{broadcastAt}
 use Rattle.channel.proofs.broadcast.broadcast_at.Statement.{statement}
 use Rattle.channel.proofs.broadcast.broadcast_at.Tie as tie

@@ -7,7 +7,8 @@ use borrow.Author.Needs.{needs}
 use borrow.Author.Tests.{lt-leb}
 use Rattle.lists.specs.Loops.{total-most}
 use Rattle.channel.specs.Layout.{countOf, placeOf}
-use Rattle.channel.specs.Letters.{letterAt, several}
+use Rattle.names.specs.CardSet.{several}
+use Rattle.names.specs.Letters.{letterAt}
 use Rattle.channel.specs.TakeBroadcast.{broadcastAt, broadcastsOf}
 use Rattle.channel.proofs.broadcast.crowded.Statement.{statement}
 use Rattle.channel.proofs.broadcast.crowded.Tie as tie

@@ -1,5 +1,5 @@
 use borrow.Author.Needs.{needs}
-use Rattle.channel.specs.Letters.{letterAt}
+use Rattle.names.specs.Letters.{letterAt}
 use Rattle.channel.proofs.letters.load.Statement.{statement}
 use Rattle.channel.proofs.letters.load.Tie as tie
 

@@ -1,5 +1,5 @@
 use borrow.Author.Needs.{needs}
-use Rattle.channel.specs.Letters.{stored}
+use Rattle.names.specs.Letters.{stored}
 use Rattle.channel.proofs.letters.store.Statement.{statement}
 use Rattle.channel.proofs.letters.store.Tie as tie
 

@@ -11,7 +11,7 @@ use Rattle.channel.specs.Answers.{isDone}
 use Rattle.channel.specs.Dispatch.{flyAnswer, flyMemory}
 use Rattle.channel.specs.Layout.{tasksOf}
 use Rattle.channel.specs.Letters.{fits}
-use Rattle.channel.specs.declared.Letter.{Letter}
+use Rattle.names.specs.declared.Letter.{Letter}
 use Rattle.channel.proofs.send.fly.Statement.{statement}
 use Rattle.channel.proofs.send.fly.Tie as tie
 

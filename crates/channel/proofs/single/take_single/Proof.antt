@@ -5,9 +5,8 @@ use native.Mathlib.Omega.{arith}
 use borrow.Author.Needs.{needs}
 use borrow.Author.Tests.{not-true, not-false, eqb-true, le-ltb, lt-ltb}
 use Rattle.lists.specs.Loops.{total, turns}
-use Rattle.names.specs.CardSet.{bitOf, sizeOf}
+use Rattle.names.specs.CardSet.{bitOf, sizeOf, single, soleOf}
 use Rattle.channel.specs.Answers.{isDone}
-use Rattle.channel.specs.Letters.{single, soleOf}
 use Rattle.channel.specs.TakeSingle.{joinsAt, singleAnswer, singleMemory}
 use Rattle.channel.proofs.single.take_single.Statement.{statement}
 use Rattle.channel.proofs.single.take_single.Tie as tie

@@ -1,7 +1,7 @@
 use mathlib.Core.Path.{sym, _∙_}
 use borrow.Author.Needs.{needs}
 use borrow.Author.Tests.{not-true, not-false}
-use Rattle.channel.specs.Letters.{letterAt}
+use Rattle.names.specs.Letters.{letterAt}
 use Rattle.channel.specs.Sized.{inboxFits}
 use Rattle.channel.proofs.sized.inbox_fits.Statement.{statement}
 use Rattle.channel.proofs.sized.inbox_fits.Tie as tie

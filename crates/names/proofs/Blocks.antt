@@ -7,10 +7,10 @@ use native.Mathlib.Numerals.{towards-suc}
 use native.Mathlib.Omega.{arith}
 use lib.ListN.{length, getD, set, length-set}
 use lib.Seq.{getD-set-same, getD-set-other, sets}
-use Rattle.channel.specs.declared.Letter.{Letter}
+use Rattle.names.specs.declared.Letter.{Letter}
 use Rattle.names.specs.declared.Body.{Body}
 use Rattle.names.specs.declared.Body.the-variants.{ReadDo, UpdateDo, ReadReply, UpdateReply}
-use Rattle.channel.specs.Letters.{letterAt, stored, bodyOf, kindOf, functionOf, valueOf}
+use Rattle.names.specs.Letters.{letterAt, stored, bodyOf, kindOf, functionOf, valueOf}
 
 pub body-back : (y : Body) → bodyOf (kindOf y) (functionOf y) (valueOf y) ≡ y
 unfolding bodyOf kindOf functionOf valueOf

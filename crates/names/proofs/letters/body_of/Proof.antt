@@ -1,8 +1,10 @@
 use borrow.Author.Needs.{needs}
+use Rattle.names.specs.Letters.{bodyOf}
 use Rattle.lists.specs.Tests.{cases}
-use Rattle.channel.specs.Letters.{bodyOf}
-use Rattle.channel.proofs.letters.body_of.Statement.{statement}
-use Rattle.channel.proofs.letters.body_of.Tie as tie
+use Rattle.names.proofs.letters.body_of.Statement.{statement}
+use Rattle.names.proofs.letters.body_of.Tie as tie
+use Rattle.names.proofs.letters.body_of.Reads as reads
+use Rattle.names.proofs.letters.body_of.Lts as lts
 
 returns : tie.Need-returns
 unfolding bodyOf

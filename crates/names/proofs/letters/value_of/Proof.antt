@@ -1,8 +1,10 @@
-use borrow.Author.Needs.{needs}
+use Rattle.names.specs.Letters.{valueOf}
 use Rattle.lists.specs.Tests.{cases}
-use Rattle.channel.specs.Letters.{functionOf}
-use Rattle.channel.proofs.letters.function_of.Statement.{statement}
-use Rattle.channel.proofs.letters.function_of.Tie as tie
+use borrow.Author.Needs.{needs}
+use Rattle.names.proofs.letters.value_of.Statement.{statement}
+use Rattle.names.proofs.letters.value_of.Tie as tie
+use Rattle.names.proofs.letters.value_of.Reads as reads
+use Rattle.names.proofs.letters.value_of.Lts as lts
 
 enum-told : tie.Need-enum-told
 enum-told c = search needs
@@ -10,36 +12,36 @@ enum-told c = search needs
 enum-known-body : tie.Need-enum-known-body
 enum-known-body c = search needs
 
+enum-known-body-2 : tie.Need-enum-known-body-2
+enum-known-body-2 c = search needs
+
 enum-told-2 : tie.Need-enum-told-2
 enum-told-2 c = search needs
 
-enum-told-3 : tie.Need-enum-told-3
-enum-told-3 c = search needs
-
 returns : tie.Need-returns
-unfolding functionOf
+unfolding valueOf
 returns c = search (needs, cases)
 
 returns-2 : tie.Need-returns-2
-unfolding functionOf
+unfolding valueOf
 returns-2 c = search (needs, cases)
 
 returns-3 : tie.Need-returns-3
-unfolding functionOf
+unfolding valueOf
 returns-3 c = search (needs, cases)
 
 returns-4 : tie.Need-returns-4
-unfolding functionOf
+unfolding valueOf
 returns-4 c = search (needs, cases)
 
-pub function-of-spec : {M : Type 1} → statement M
-function-of-spec =
+pub value-of-spec : {M : Type 1} → statement M
+value-of-spec =
     tie.close
     (tie.spec
     enum-told
     enum-known-body
+    enum-known-body-2
     enum-told-2
-    enum-told-3
     returns
     returns-2
     returns-3

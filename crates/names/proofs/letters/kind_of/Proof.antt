@@ -1,8 +1,10 @@
-use borrow.Author.Needs.{needs}
+use Rattle.names.specs.Letters.{kindOf}
 use Rattle.lists.specs.Tests.{cases}
-use Rattle.channel.specs.Letters.{kindOf}
-use Rattle.channel.proofs.letters.kind_of.Statement.{statement}
-use Rattle.channel.proofs.letters.kind_of.Tie as tie
+use borrow.Author.Needs.{needs}
+use Rattle.names.proofs.letters.kind_of.Statement.{statement}
+use Rattle.names.proofs.letters.kind_of.Tie as tie
+use Rattle.names.proofs.letters.kind_of.Reads as reads
+use Rattle.names.proofs.letters.kind_of.Lts as lts
 
 enum-told : tie.Need-enum-told
 enum-told c = search needs

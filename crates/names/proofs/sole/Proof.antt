@@ -1,9 +1,12 @@
+use Rattle.lists.specs.Loops.{total, turns}
+use Rattle.names.specs.CardSet.{soleOf}
+use Rattle.lists.specs.Tests.{cases}
 use native.Mathlib.Omega.{arith}
 use borrow.Author.Needs.{needs}
-use Rattle.lists.specs.Loops.{total, turns}
-use Rattle.channel.specs.Letters.{soleOf}
-use Rattle.channel.proofs.letters.sole.Statement.{statement}
-use Rattle.channel.proofs.letters.sole.Tie as tie
+use Rattle.names.proofs.sole.Statement.{statement}
+use Rattle.names.proofs.sole.Tie as tie
+use Rattle.names.proofs.sole.Reads as reads
+use Rattle.names.proofs.sole.Lts as lts
 
 mul-result : tie.Need-mul-result
 mul-result c = search needs

@@ -1,8 +1,8 @@
+use Rattle.names.specs.Letters.{known}
 use borrow.Author.Needs.{needs}
 use Rattle.lists.specs.Tests.{cases}
-use Rattle.channel.specs.Letters.{known}
-use Rattle.channel.proofs.letters.known.Statement.{statement}
-use Rattle.channel.proofs.letters.known.Tie as tie
+use Rattle.names.proofs.letters.known.Statement.{statement}
+use Rattle.names.proofs.letters.known.Tie as tie
 
 enum-told : tie.Need-enum-told
 enum-told c = search needs
