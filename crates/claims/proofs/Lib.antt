@@ -30,3 +30,4 @@ pub mod Steady
 pub mod Room
 pub mod NeverSix
 pub mod NamedRuns
+pub mod ForcedAnswer

@@ -1,4 +1,4 @@
--- K7 to K10, and the numbers of steps refused for themselves or because there is nothing there, computed.
+-- K2, K7 to K10, and the numbers of steps refused for themselves or because there is nothing there, computed.
 use lib.Dec.{eqb, leb}
 use mathlib.Core.List.{[], map, _∷_}
 use mathlib.Core.Path.{refl, _≡_}
@@ -7,7 +7,7 @@ use Rattle.lists.specs.Loops.{total, turns}
 use Rattle.names.specs.CardSet.{justOf, memberOf, single, sizeOf, soleOf}
 use Rattle.names.specs.Placement.{homePlaced, placed, placementRefusal, registerPlaced, sized}
 use Rattle.names.specs.Update.{largerOf, sumOf, updated}
-use Rattle.claims.specs.NamedRuns.{k10, k10-held, k7, k8, k9, k9-held, readings, results, step, three, tiny}
+use Rattle.claims.specs.NamedRuns.{k10, k10-held, k2, k7, k8, k9, k9-held, readings, results, step, three, tiny}
 use Rattle.claims.specs.PublishedRun.{publishedRun}
 use Rattle.claims.specs.SerialOrder.{appliedOn}
 use Rattle.claims.specs.Steps.{cardThere, commandOf, decode, functionThere, known, namesCard, namesChosen, namesFunction, namesRegister, namesTask, operand, registerThere, taskThere, unnamedZero}
@@ -20,6 +20,14 @@ tiny-accepted = refl
 pub three-accepted : placementRefusal three ≡ 0
 unfolding placementRefusal sized placed homePlaced registerPlaced each memberOf eqb leb
 three-accepted = refl
+
+k2-results : results tiny k2 ≡ 0 ∷ 0 ∷ 0 ∷ 0 ∷ 0 ∷ 0 ∷ []
+unfolding decode known unnamedZero taskThere registerThere cardThere functionThere namesTask namesCard namesRegister namesChosen namesFunction operand commandOf each memberOf single sizeOf soleOf justOf total turns updated sumOf largerOf eqb leb
+k2-results = refl
+
+k2-readings : readings tiny k2 ≡ 0 ∷ 0 ∷ 0 ∷ 0 ∷ 0 ∷ 5 ∷ []
+unfolding decode known unnamedZero taskThere registerThere cardThere functionThere namesTask namesCard namesRegister namesChosen namesFunction operand commandOf each memberOf single sizeOf soleOf justOf total turns updated sumOf largerOf eqb leb
+k2-readings = refl
 
 k7-results : results tiny k7 ≡ 0 ∷ 13 ∷ 20 ∷ []
 unfolding decode known unnamedZero taskThere registerThere cardThere functionThere namesTask namesCard namesRegister namesChosen namesFunction operand commandOf each memberOf single sizeOf soleOf justOf total turns updated sumOf largerOf eqb leb

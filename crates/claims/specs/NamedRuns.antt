@@ -1,4 +1,4 @@
--- K7 to K10 (01, "Named runs"), as lists of steps on the idealised level.
+-- K2 and K7 to K10 (01, "Named runs"), as lists of steps on the idealised level.
 use Prim.Native.Nat.{ℕ}
 use mathlib.Core.List.{List, [], _∷_, _++_, map}
 use Rattle.names.specs.Placement.{Placement}
@@ -23,6 +23,12 @@ readings P l = map (λ a. a .value) (publishedRun P l .1)
 -- one card, one register, one task
 abbrev pub tiny : Placement
 tiny = record { cards = 1; homes = 0 ∷ []; copies = 1 ∷ []; primaries = 0 ∷ [] }
+
+-- K2's steps: task 0 adds 5 to register 0, then reads it
+abbrev pub k2 : List RawStep
+k2 =
+    record { code = 2; argument = 0 ∷ 0 ∷ 2 ∷ 0 ∷ 5 ∷ 0 ∷ 0 ∷ 0 ∷ [] }
+    ∷ step 3 (0 ∷ []) ∷ step 10 (0 ∷ []) ∷ step 1 (0 ∷ []) ∷ step 3 (0 ∷ []) ∷ step 10 (0 ∷ []) ∷ []
 
 -- "K7 a busy task asks for an absent register: 13; for a present one: 20."
 abbrev pub k7 : List RawStep
