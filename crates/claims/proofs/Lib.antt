@@ -29,3 +29,5 @@ pub mod Range
 pub mod Steady
 pub mod Room
 pub mod NeverSix
+pub mod NamedRuns
+pub mod ForcedAnswer

@@ -8,3 +8,4 @@ pub mod Ledger
 pub mod Numbers
 pub mod Limits
 pub mod SerialOrder
+pub mod NamedRuns

@@ -115,3 +115,13 @@ module _ {A : Type 0} (p : A → Bool) where
 pub once-right : {A : Type 0} (l r : List A) → Once (l ++ r) → Once r
 once-right [] r o = o
 once-right (a ∷ l) r o = once-right l r (o .1)
+
+pub once-left : {A : Type 0} (l r : List A) → Once (l ++ r) → Once l
+once-left [] r o = tt
+once-left (a ∷ l) r o = ((λ h. o .0 (any-left r h)), once-left l r (o .1))
+
+-- a list that has one element, once
+pub only-one : {A : Type 0} (a : A) (l : List A) → Once l → ((b : A) → In b l → b ≡ a) → In a l → l ≡ a ∷ []
+only-one a [] o f h = absurd (any-nil h)
+only-one a (b ∷ []) o f h = ap (λ x. x ∷ []) (f b (here refl))
+only-one a (b ∷ c ∷ l) o f h = absurd (o .0 (here (f c (there (here refl)) ∙ sym (f b (here refl)))))
