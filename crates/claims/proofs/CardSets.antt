@@ -14,6 +14,7 @@ use Rattle.lists.specs.Keys.{less}
 use Rattle.lists.specs.Loops.{total, turns}
 use Rattle.lists.specs.Tests.{and-fst, and-intro, and-snd, bool, eqb-not, eqb-of}
 use Rattle.names.specs.CardSet.{justOf, memberOf, several, single, sizeOf, soleOf}
+use Rattle.names.proofs.CardSets.{not-several, single-of}
 use Rattle.names.specs.Placement.{Placement, copy, holders, home, homePlaced, placed, placementRefusal, registerPlaced, registers, sized, tasks}
 use Rattle.claims.specs.Refusals.{alone}
 
@@ -206,11 +207,11 @@ module _ (P : Placement) (ok : placementRefusal P ≡ 0) where
       there? : alone P x i ≡ true → (copy P x i ≡ true) × ((j : ℕ) → copy P x j ≡ true → j ≡ i)
       there? e =
           let c = and-fst (copy P x i) _ e in
-          let n = not-false (single (holders P x)) (not-true (several (holders P x)) (and-snd (copy P x i) _ e)) in
+          let n = single-of (holders P x) (not-true (several (holders P x)) (and-snd (copy P x i) _ e)) in
           (c, λ j d. eqb-true _ _ (sym (only x n j) ∙ d) ∙ sym (eqb-true _ _ (sym (only x n i) ∙ c)))
 
       back : (copy P x i ≡ true) × ((j : ℕ) → copy P x j ≡ true → j ≡ i) → alone P x i ≡ true
       back (c, f) =
           let l = ltb-true i (P .cards) (and-fst (ltb i (P .cards)) _ c) in
           let m = member-single (holders P x) i (holders-low x) (omega (arith, cards-low)) (sym (copy-member x i) ∙ c) (λ j e. f j (copy-member x j ∙ e)) in
-          and-intro c (ap not (ap not m))
+          and-intro c (ap not (not-several (holders P x) m))
