@@ -6,7 +6,7 @@ use mathlib.Core.List.{List, [], _∷_}
 use mathlib.Core.Bool.{true}
 use Rattle.lists.specs.Loops.{total, turns}
 use Rattle.lists.specs.Every.{each}
-use Rattle.names.specs.CardSet.{memberOf, sizeOf, several, soleOf}
+use Rattle.names.specs.CardSet.{memberOf, sizeOf, several, single, soleOf}
 use Rattle.names.specs.declared.Card.{Card}
 use Rattle.names.specs.declared.Task.{Task}
 use Rattle.names.specs.declared.Message.{Message}
@@ -36,8 +36,8 @@ abbrev shared : Message
 shared = about 2 0 (UpdateDo 1 7)
 
 -- "set register 1 to 9", on card 1; and a read of register 1 with its reply
-abbrev single : Message
-single = about 0 1 (UpdateDo 1 9)
+abbrev only-there : Message
+only-there = about 0 1 (UpdateDo 1 9)
 
 abbrev asks : Message
 asks = about 0 1 ReadDo
@@ -60,11 +60,11 @@ module _ (ws : List ℕ) where
   -- K9: "Step 8 holds it at card 1; step 9 there gives 33."
   abbrev k9 : List Call
   k9 =
-      receiveCall (card 1) ∷ takeSingleCall (task 0) ∷ dispatchCall (card 0) single 2 ∷ receiveCall (card 0) ∷ takeBroadcastCall (card 0)
+      receiveCall (card 1) ∷ takeSingleCall (task 0) ∷ dispatchCall (card 0) only-there 2 ∷ receiveCall (card 0) ∷ takeBroadcastCall (card 0)
       ∷ dispatchCall (card 2) shared 7 ∷ []
 
   pub k9-held : answersAfter start k9 ≡ 33 ∷ 0 ∷ 0 ∷ 0 ∷ 0 ∷ 0 ∷ []
-  unfolding refusalsAfter callRefusal channelRefusal fits addressed known cardsOf tasksOf registersOf beginMemory sizesFit begun several soleOf sizeOf memberOf total turns each
+  unfolding refusalsAfter callRefusal channelRefusal fits addressed known cardsOf tasksOf registersOf beginMemory sizesFit begun several single soleOf sizeOf memberOf total turns each
   k9-held = follows k9 .answers
 
   -- "After card 1 takes broadcast 1, two deliveries set 7, then 9."
@@ -72,11 +72,11 @@ module _ (ws : List ℕ) where
   k9-taken = takeBroadcastCall (card 1) ∷ k9
 
   pub k9-first : receiveAnswer (memoryAfter start k9-taken) (card 1) ≡ Got shared
-  unfolding callRefusal channelRefusal fits addressed known cardsOf tasksOf registersOf beginMemory sizesFit begun several soleOf sizeOf memberOf total turns each
+  unfolding callRefusal channelRefusal fits addressed known cardsOf tasksOf registersOf beginMemory sizesFit begun several single soleOf sizeOf memberOf total turns each
   k9-first = follows k9-taken .hands (card 1)
 
-  pub k9-second : receiveAnswer (memoryAfter start (receiveCall (card 1) ∷ k9-taken)) (card 1) ≡ Got single
-  unfolding callRefusal channelRefusal fits addressed known cardsOf tasksOf registersOf beginMemory sizesFit begun several soleOf sizeOf memberOf total turns each
+  pub k9-second : receiveAnswer (memoryAfter start (receiveCall (card 1) ∷ k9-taken)) (card 1) ≡ Got only-there
+  unfolding callRefusal channelRefusal fits addressed known cardsOf tasksOf registersOf beginMemory sizesFit begun several single soleOf sizeOf memberOf total turns each
   k9-second = follows (receiveCall (card 1) ∷ k9-taken) .hands (card 1)
 
   -- K10: "Card 1 delivers broadcast 1, then answers a read from task 0. The reply is held at card 0 until broadcast 1 is taken there."
@@ -86,16 +86,16 @@ module _ (ws : List ℕ) where
       ∷ takeBroadcastCall (card 1) ∷ dispatchCall (card 0) asks 2 ∷ dispatchCall (card 2) shared 7 ∷ []
 
   pub k10-held : answersAfter start k10 ≡ 33 ∷ 0 ∷ 0 ∷ 0 ∷ 0 ∷ 0 ∷ 0 ∷ 0 ∷ 0 ∷ []
-  unfolding refusalsAfter callRefusal channelRefusal fits addressed known cardsOf tasksOf registersOf beginMemory sizesFit begun several soleOf sizeOf memberOf total turns each
+  unfolding refusalsAfter callRefusal channelRefusal fits addressed known cardsOf tasksOf registersOf beginMemory sizesFit begun several single soleOf sizeOf memberOf total turns each
   k10-held = follows k10 .answers
 
   abbrev k10-taken : List Call
   k10-taken = takeBroadcastCall (card 0) ∷ k10
 
   pub k10-first : receiveAnswer (memoryAfter start k10-taken) (card 0) ≡ Got shared
-  unfolding callRefusal channelRefusal fits addressed known cardsOf tasksOf registersOf beginMemory sizesFit begun several soleOf sizeOf memberOf total turns each
+  unfolding callRefusal channelRefusal fits addressed known cardsOf tasksOf registersOf beginMemory sizesFit begun several single soleOf sizeOf memberOf total turns each
   k10-first = follows k10-taken .hands (card 0)
 
   pub k10-second : receiveAnswer (memoryAfter start (receiveCall (card 0) ∷ k10-taken)) (card 0) ≡ Got answers
-  unfolding callRefusal channelRefusal fits addressed known cardsOf tasksOf registersOf beginMemory sizesFit begun several soleOf sizeOf memberOf total turns each
+  unfolding callRefusal channelRefusal fits addressed known cardsOf tasksOf registersOf beginMemory sizesFit begun several single soleOf sizeOf memberOf total turns each
   k10-second = follows (receiveCall (card 0) ∷ k10-taken) .hands (card 0)
