@@ -15,7 +15,7 @@ use Rattle.lists.specs.Loops.{total, turns}
 use Rattle.lists.specs.Tests.{and-fst, and-intro, and-snd, bool, eqb-not, eqb-of}
 use Rattle.names.specs.CardSet.{justOf, memberOf, several, single, sizeOf, soleOf}
 use Rattle.names.proofs.CardSets.{not-several, single-of}
-use Rattle.names.specs.Placement.{Placement, copy, holders, home, homePlaced, placed, placementRefusal, registerPlaced, registers, sized, tasks}
+use Rattle.names.specs.Placement.{Placement, copy, holders, home, homePlaced, homesPlaced, placed, placementRefusal, primary, registerPlaced, registers, registersPlaced, sized, sizesInRange, tasks}
 use Rattle.claims.specs.Refusals.{alone}
 
 -- two tests with one value

@@ -13,8 +13,8 @@ use Rattle.channel.proofs.Counts.{taken-made}
 use Rattle.channel.proofs.Held.{Distinct, Holds, Names}
 use Rattle.channel.proofs.InboxHistory.{gone, log, queue}
 use Rattle.channel.proofs.InboxOrder.{joinKey, log-sorted}
+use Rattle.channel.proofs.Integrity.{received-joined, unreceived-inbox}
 use Rattle.channel.proofs.Joining.{inbox-mcast, inbox-to}
-use Rattle.channel.proofs.Sent.{received-joined, unreceived-inbox}
 use Rattle.channel.specs.Automaton.{ChannelExecution, Mcasts, Receives, chan}
 use Rattle.channel.specs.Network.{Network}
 use Rattle.channel.specs.State.{Tagged, nth}
