@@ -1,4 +1,4 @@
-use native.Mathlib.Omega.{arith}
+use native.Mathlib.Nat.{zero-add, div-one}
 use Rattle.lists.specs.Loops.{total, turns}
 use Rattle.names.specs.CardSet.{sizeOf}
 use borrow.Author.Needs.{needs}
@@ -28,7 +28,7 @@ add-result-7 c = search needs
 
 returns : tie.Need-returns
 unfolding sizeOf total turns
-returns c = omega arith
+returns c = simp (zero-add, div-one)
 
 pub size-spec : {M : Type 1} → statement M
 size-spec =
