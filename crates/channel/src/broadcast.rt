@@ -61,8 +61,8 @@ fn sweep(memory: &mut [u32; 4808], i: usize, n: u32, k: usize, kept: usize) -> u
 {
     let block = KEPT + i * BLOCKS + k;
     let letter = load(memory, block);
-    let tag = memory[block * 8 + 7];
-    if tag == n {
+    let mark = memory[block * 8 + 7];
+    if mark == n {
         push(memory, i, letter);
         return kept;
     }
@@ -70,7 +70,7 @@ fn sweep(memory: &mut [u32; 4808], i: usize, n: u32, k: usize, kept: usize) -> u
         memory,
         KEPT + i * BLOCKS + kept,
         letter,
-        BroadcastNumber(tag),
+        BroadcastNumber(mark),
     );
     kept + 1
 }
