@@ -4,14 +4,11 @@ use Prim.Native.Nat.{ℕ}
 use mathlib.Core.Bool.{cond}
 use mathlib.Core.List.{List, [], _∷_}
 use lib.Dec.{eqb}
+pub use Rattle.names.specs.declared.Answer.{Answer}
 use Rattle.names.specs.Placement.{Placement}
 use Rattle.claims.specs.Command.{Command, request-read, request-update, perform, send-read, send-update, dispatch, takeBroadcast, takeSingle, deliver, report}
 use Rattle.claims.specs.Steps.{RawStep, Decoded, bad, good, decode}
 use Rattle.claims.specs.Published.{Doing, quiet, askingRead, askingUpdate, waiting, doneRead, doneUpdate, Published, begin, effect, commandRefusal}
-
-pub record Answer : Type 0 where
-  pub result : ℕ
-  pub value : ℕ
 
 -- the value that a task's report gives
 abbrev pub valueOf : Doing → ℕ

@@ -5,12 +5,9 @@ use mathlib.Core.Bool.{Bool, true, false, cond, _&&_, _||_, not}
 use mathlib.Core.List.{List, [], _∷_}
 use lib.Dec.{eqb, leb, ltb}
 use lib.ListN.{getD}
+pub use Rattle.names.specs.Step.{RawStep}
 use Rattle.names.specs.Placement.{Placement, tasks, registers}
 use Rattle.claims.specs.Command.{Command, request-read, request-update, perform, send-read, send-update, dispatch, takeBroadcast, takeSingle, deliver, report}
-
-pub record RawStep : Type 0 where
-  pub code : ℕ
-  pub argument : List ℕ
 
 pub data Decoded : Type 0 where
   bad : ℕ → Decoded  -- refused, with this number
