@@ -72,3 +72,4 @@ pub mod RefusalsMean
 -- Each operation keeps the memory well sized
 -- Any list of calls on a memory
 pub mod ChannelLaw
+pub mod Offered

@@ -14,3 +14,6 @@ pub mod Step
 pub mod Sized
 pub mod Start
 pub mod Panel
+-- What the memories show, and what is demanded of the steps
+pub mod Shows
+pub mod Demand2

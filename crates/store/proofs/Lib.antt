@@ -1,0 +1,18 @@
+-- What each change of the registers' memory does to what it shows, and that it keeps it well sized
+pub mod Words
+pub mod Showing
+pub mod Sizing
+-- The channel's calls as the registers see them
+pub mod OverChannel
+-- Each of the ten steps follows the published algorithm
+pub mod Standing
+pub mod RequestLaw
+pub mod PerformLaw
+pub mod Posting
+pub mod SendLaw
+pub mod TrafficLaw
+pub mod DeliverLaw
+pub mod DecodeLaw
+pub mod StepLaw
+-- Any list of steps
+pub mod Explained
