@@ -14,5 +14,11 @@ pub mod TrafficLaw
 pub mod DeliverLaw
 pub mod DecodeLaw
 pub mod StepLaw
--- Any list of steps
-pub mod Explained
+-- The start
+pub mod Placed
+pub mod StartLaw
+-- Demands 2 and 3, and never 6
+pub mod SomeState
+pub mod Demand2
+pub mod Demand3
+pub mod NeverSix

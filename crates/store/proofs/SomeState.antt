@@ -27,18 +27,22 @@ module _ (rs cs : List ℕ) where
   }
 
   pub some-state : (P : Placement) × (s : Published) × StoreShows rs cs P s
-  some-state = (placementIn, stateIn, record {
-    cards= = refl;
-    tasks= = listing-length (homeOf rs) (tasksOf cs);
-    registers= = listing-length (holdersOf rs) (registersOf cs);
-    registers-show = record {
-      home= = λ c h. listing-at (homeOf rs) (tasksOf cs) c 0 h;
-      holders= = λ x h. listing-at (holdersOf rs) (registersOf cs) x 0 h;
-      primary= = λ x h. listing-at (primaryOf rs) (registersOf cs) x 0 h;
-      requests= = refl;
-      status= = λ c h. refl;
-      table= = λ i x h g. refl;
-      out= = λ i h. refl;
-    };
-    channel-shows = record { letters = shown cs .0; shows = shown cs .1; plain= = refl };
-  })
+  some-state = (
+    placementIn,
+    stateIn,
+    record {
+      cards= = refl;
+      tasks= = listing-length (homeOf rs) (tasksOf cs);
+      registers= = listing-length (holdersOf rs) (registersOf cs);
+      registers-show = record {
+        home= = λ c h. listing-at (homeOf rs) (tasksOf cs) c 0 h;
+        holders= = λ x h. listing-at (holdersOf rs) (registersOf cs) x 0 h;
+        primary= = λ x h. listing-at (primaryOf rs) (registersOf cs) x 0 h;
+        requests= = refl;
+        status= = λ c h. refl;
+        table= = λ i x h g. refl;
+        out= = λ i h. refl;
+      };
+      channel-shows = record { letters = shown cs .0; shows = shown cs .1; plain= = refl };
+    },
+  )

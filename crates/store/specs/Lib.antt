@@ -17,3 +17,6 @@ pub mod Panel
 -- What the memories show, and what is demanded of the steps
 pub mod Shows
 pub mod Demand2
+pub mod Run
+pub mod Demand3
+pub mod Starts
