@@ -1,13 +1,13 @@
 -- What a layer above may rely on, in the words of the definitions that the functions' contracts cite.
-use Prim.Native.Nat.{ℕ, zero, suc, _+_, _*_, _%_, _<_, _≤_, _^_}
-use mathlib.Core.Path.{_≡_, refl, ap, _∙_}
-use mathlib.Core.Bool.{true, _&&_}
+use Prim.Native.Nat.{ℕ, zero, suc, _+_, _<_, _≤_, _^_}
+use mathlib.Core.Path.{_≡_, refl, _∙_}
+use mathlib.Core.Bool.{true}
 use mathlib.Core.List.{List, [], _∷_}
 use mathlib.Core.Option.{some}
 use native.Mathlib.Omega.{arith}
 use borrow.Author.Tests.{ltb-true, leb-true, lt-ltb, le-leb}
 use lib.Dec.{ltb, leb}
-use lib.ListN.{length, getD}
+use lib.ListN.{length}
 use Rattle.lists.specs.Tests.{and-fst, and-snd, and-intro}
 use Rattle.lists.specs.Conjunctions.{and-five}
 use Rattle.lists.specs.Listings.{listing, listing-zero, listing-cons, listing-length}
@@ -15,9 +15,8 @@ use Rattle.names.specs.declared.Card.{Card}
 use Rattle.names.specs.declared.Letter.{Letter}
 use Rattle.names.specs.CardSet.{memberOf}
 use Rattle.names.specs.Letters.{letterAt, known}
-use Rattle.channel.specs.declared.Received.the-variants.{NoSuchCard}
-use Rattle.channel.specs.State.{ChannelState, initialChannel, nth}
-use Rattle.channel.specs.Layout.{broadcastBlock, cardsOf, tasksOf, registersOf, madeOf, takenOf, headOf, countOf, placeOf}
+use Rattle.channel.specs.State.{ChannelState, nth}
+use Rattle.channel.specs.Layout.{broadcastBlock, cardsOf, tasksOf, registersOf, madeOf, takenOf, countOf, placeOf}
 use Rattle.channel.specs.Letters.{addressed, fits}
 use Rattle.channel.specs.Begin.{sizesFit, beginMemory}
 use Rattle.channel.specs.Inbox.{receiveAnswer}

@@ -3,24 +3,24 @@
 use Prim.Native.Nat.{ℕ, _+_, _<_, _≤_}
 use mathlib.Core.Path.{_≡_, refl, sym, ap, _∙_, subst}
 use mathlib.Core.Logic.{_≢_}
-use mathlib.Core.Bool.{Bool, true, false, cond, _&&_, _||_, not}
+use mathlib.Core.Bool.{Bool, true, false, cond, _&&_}
 use mathlib.Core.List.{List, [], _∷_}
 use native.Mathlib.Decide.{ℕ-discrete}
 use native.Mathlib.Omega.{arith}
-use borrow.Author.Tests.{ltb-true, leb-true, ne-eqb, lt-leb, eq-eqb}
+use borrow.Author.Tests.{ltb-true, ne-eqb, lt-leb}
 use lib.Dec.{eqb, ltb, leb}
 use lib.ListN.{getD}
 use Rattle.lists.specs.Tests.{and-false, past}
 use Rattle.names.specs.Placement.{Placement, tasks, registers}
 use Rattle.claims.specs.Command.{request-read, request-update, perform, send-read, send-update, dispatch, takeBroadcast, takeSingle, deliver, report}
 use Rattle.claims.specs.Command as K
-use Rattle.claims.specs.Steps.{RawStep, bad, good, need, among, zeros, namesTask, namesCard, namesRegister, namesChosen, namesFunction, operand, unnamedZero, known, commandOf, taskThere, registerThere, cardThere, functionThere, decode}
+use Rattle.claims.specs.Steps.{bad, good, need, zeros, namesTask, namesCard, namesRegister, namesChosen, namesFunction, operand, unnamedZero, known, commandOf, taskThere, registerThere, cardThere, functionThere, decode}
 use Rattle.claims.specs.Steps as S
 use Rattle.store.specs.declared.Command.{Command}
 use Rattle.store.specs.declared.Command.the-variants.{RequestRead, RequestUpdate, Perform, SendRead, SendUpdate, Dispatch, TakeBroadcast, TakeSingle, Deliver, Report}
 use Rattle.store.specs.declared.Decoded.{Decoded}
 use Rattle.store.specs.declared.Decoded.the-variants.{Good, Bad}
-use Rattle.store.specs.Decode.{byteOf, taskIn, cardIn, registerIn, chosenIn, functionIn, operandIn, restZero, decided, taskNumber, cardNumber, readNumber, chosenNumber, updateNumber, decodeOf}
+use Rattle.store.specs.Decode.{taskIn, cardIn, registerIn, chosenIn, functionIn, operandIn, restZero, decided, taskNumber, cardNumber, readNumber, chosenNumber, updateNumber, decodeOf}
 
 -- the command, as it is on paper
 abbrev pub commandShown : Command → K.Command

@@ -1,6 +1,6 @@
 -- Step 9.
-use Prim.Native.Nat.{ℕ, _<_, _≤_, _^_}
-use mathlib.Core.Path.{_≡_, refl, sym, ap, _∙_, subst}
+use Prim.Native.Nat.{ℕ, _<_}
+use mathlib.Core.Path.{_≡_, refl, sym, ap, _∙_}
 use mathlib.Core.Logic.{_≢_}
 use mathlib.Core.Bool.{Bool, true, false, cond, _&&_, not}
 use mathlib.Core.List.{List, [], _∷_, map}
@@ -18,28 +18,26 @@ use Rattle.names.specs.Update.{updated}
 use Rattle.names.specs.Placement.{Placement, home, primary, copy}
 use Rattle.channel.specs.State.{ChannelState, channelStep}
 use Rattle.channel.specs.State as C
-use Rattle.channel.specs.Refusals.{otherwise, channelRefusal}
 use Rattle.channel.specs.Layout.{cardsOf, tasksOf, registersOf}
-use Rattle.channel.specs.Letters.{fits}
-use Rattle.channel.specs.declared.Received.the-variants.{Got, NoSuchCard, Empty}
+use Rattle.channel.specs.declared.Received.the-variants.{Got, Empty}
 use Rattle.channel.specs.Inbox.{receiveAnswer, receiveMemory}
 use Rattle.channel.specs.Answers.{receivedNumber}
-use Rattle.channel.specs.MemoryCalls.{receiveCall, callNumber, callMemory, actionOf, handedUp}
+use Rattle.channel.specs.MemoryCalls.{receiveCall, callNumber, callMemory, handedUp}
 use Rattle.channel.proofs.Facts.{cards-most}
 use Rattle.channel.proofs.Offered.{Fits, fits-is, hands, head-fits}
 use Rattle.claims.specs.Command.{deliver}
 use Rattle.claims.specs.Steps.{good}
-use Rattle.claims.specs.Refusals.{outboxRoom, deliverRefusal}
-use Rattle.claims.specs.Published.{Published, mail, setStatus, setCopy, post, withChannel, replies, answered, replyTo, receiving, delivering, doneUpdate}
+use Rattle.claims.specs.Refusals.{outboxRoom}
+use Rattle.claims.specs.Published.{Published, mail, setStatus, setCopy, post, withChannel, replies, replyTo, receiving, doneUpdate}
 use Rattle.claims.specs.Published as Pub
 use Rattle.store.specs.declared.Doing.the-variants.{DoneRead, DoneUpdate}
-use Rattle.store.specs.Layout.{homeOf, primaryOf, holds, copyOf, onlyCard}
+use Rattle.store.specs.Layout.{homeOf, copyOf, onlyCard}
 use Rattle.store.specs.Doings.{doingStored}
-use Rattle.store.specs.Outbox.{outCountOf, roomy, posted, letterFor}
+use Rattle.store.specs.Outbox.{outCountOf, roomy}
 use Rattle.store.specs.Perform.{copyUpdated}
 use Rattle.store.specs.Deliver.{replied, repliesHere, applied, bodyNumber, bodyWords, foundNumber, foundWords, deliverNumber, deliverRegisters, deliverChannel}
 use Rattle.store.specs.Sized.{doingFits}
-use Rattle.store.specs.Step.{Outcome, outcome}
+use Rattle.store.specs.Step.{outcome}
 use Rattle.store.specs.Shows.{statusOf, plain, ChannelShows}
 use Rattle.store.specs.Demand2.{StepFollows}
 use Rattle.store.proofs.OverChannel.{Passes, passes}

@@ -1,21 +1,20 @@
 -- Demand 3: the store keeps step with the published algorithm, answer by answer, so what explains that explains the store.
-use Prim.Native.Nat.{ℕ, _<_, _≤_, _^_}
-use mathlib.Core.Path.{_≡_, refl, sym, ap, ap₂, _∙_}
-use mathlib.Core.Bool.{Bool, true, false, _&&_, false≢true}
+use Prim.Native.Nat.{ℕ, _<_, _^_}
+use mathlib.Core.Path.{_≡_, refl, sym, ap₂, _∙_}
+use mathlib.Core.Bool.{true}
 use mathlib.Core.List.{List, [], _∷_}
 use native.Mathlib.Decide.{decLt}
 use native.Mathlib.Omega.{arith}
 use borrow.Author.Tests.{ltb-true}
 use lib.Dec.{ltb}
-use lib.ListN.{length, getD, List·getD-eq-default}
+use lib.ListN.{List·getD-eq-default}
 use Rattle.lists.specs.Tests.{and-fst, and-snd}
 use Rattle.names.specs.CardSet.{memberOf}
-use Rattle.names.specs.Placement.{Placement, registers, holders, copy, placementRefusal}
+use Rattle.names.specs.Placement.{Placement, registers, holders, copy}
 use Rattle.channel.proofs.Destinations.{member-present}
 use Rattle.claims.specs.Steps.{RawStep, decode}
 use Rattle.claims.specs.Published.{Published, begin}
 use Rattle.claims.specs.PublishedRun.{Answer, afterDecoded, answersFrom, finalFrom}
-use Rattle.claims.specs.SerialOrder.{SerialOrder}
 use Rattle.claims.proofs.Demand3.{demand-3}
 use Rattle.store.specs.Demand2.{Stands}
 use Rattle.store.specs.Run.{Store, started, next, storeAfter, answersOf, tableOf}

@@ -22,3 +22,4 @@ pub mod SomeState
 pub mod Demand2
 pub mod Demand3
 pub mod NeverSix
+pub mod CheckedOnce

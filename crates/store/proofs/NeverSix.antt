@@ -1,6 +1,5 @@
 -- No state reached by calls from a start gives 6: the store stays well sized, and answers as the published algorithm does, which never
 -- answers 6 either.
-use Prim.Native.Nat.{ℕ}
 use mathlib.Core.Path.{_≡_, refl, sym, ap, _∙_}
 use mathlib.Core.Logic.{_≢_}
 use mathlib.Core.List.{List}
@@ -8,7 +7,7 @@ use Rattle.names.specs.Placement.{Placement, placementRefusal}
 use Rattle.claims.specs.Steps.{RawStep, Decoded, bad, good, decode}
 use Rattle.claims.specs.Published.{Published, begin}
 use Rattle.claims.specs.PublishedRun.{refusalOf, decodedRefusal, answerDecoded, finalFrom}
-use Rattle.store.specs.Run.{Store, started, storeAfter, answer}
+use Rattle.store.specs.Run.{Store, started, storeAfter}
 use Rattle.store.specs.Starts.{NeverSix}
 use Rattle.store.proofs.StepLaw.{step-follows}
 use Rattle.store.proofs.StartLaw.{start-stands}

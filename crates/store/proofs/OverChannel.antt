@@ -4,17 +4,17 @@ use mathlib.Core.Path.{_≡_, refl, sym, ap, _∙_}
 use mathlib.Core.Bool.{Bool, true, false, cond}
 use mathlib.Core.Logic.{_≢_}
 use mathlib.Core.List.{List}
-use borrow.Author.Tests.{eqb-true, eq-eqb}
+use borrow.Author.Tests.{eqb-true}
 use lib.Dec.{eqb}
 use lib.ListN.{length}
 use Rattle.names.specs.declared.Letter.{Letter}
-use Rattle.channel.specs.State.{ChannelState, ChannelAction, channelStep}
+use Rattle.channel.specs.State.{ChannelState, channelStep}
 use Rattle.channel.specs.Refusals.{channelRefusal}
 use Rattle.channel.specs.Layout.{cardsOf}
 use Rattle.channel.specs.Sized.{wellSized}
-use Rattle.channel.specs.Shows.{letterMail, Shows}
+use Rattle.channel.specs.Shows.{letterMail}
 use Rattle.channel.specs.Calls.{done}
-use Rattle.channel.specs.Renaming.{channel-map, action-map, Alike}
+use Rattle.channel.specs.Renaming.{action-map, Alike}
 use Rattle.channel.specs.MemoryCalls.{Call, callNumber, callMemory, actionOf, orElse, absent, unfit, callRefusal, letters, SameSizes, CallFollows}
 use Rattle.channel.proofs.CallLaws.{refused-is, call-follows}
 use Rattle.channel.proofs.RenamedRefusals.{channelRefusal-map}

@@ -1,18 +1,17 @@
 -- Step 3.
-use Prim.Native.Nat.{ℕ, _<_, _≤_}
-use mathlib.Core.Path.{_≡_, refl, sym, ap, _∙_}
+use Prim.Native.Nat.{ℕ, _<_}
+use mathlib.Core.Path.{_≡_, refl, _∙_}
 use mathlib.Core.Logic.{_≢_}
-use mathlib.Core.Bool.{Bool, true, false, cond, _&&_, not}
+use mathlib.Core.Bool.{Bool, true, false, cond, _&&_}
 use mathlib.Core.List.{List}
 use native.Mathlib.Omega.{arith}
 use borrow.Author.Tests.{ltb-true}
 use lib.Dec.{ltb, leb}
-use lib.ListN.{length, set, length-set}
+use lib.ListN.{set, length-set}
 use Rattle.lists.specs.Tests.{and-fst}
 use Rattle.names.specs.declared.Register.{Register}
-use Rattle.names.specs.CardSet.{several}
 use Rattle.names.specs.Update.{updated}
-use Rattle.names.specs.Placement.{Placement, home, holders, copy}
+use Rattle.names.specs.Placement.{Placement, home}
 use Rattle.channel.specs.Refusals.{otherwise}
 use Rattle.channel.specs.Layout.{cardsOf, tasksOf, registersOf}
 use Rattle.channel.proofs.Facts.{cards-most, tasks-most}
@@ -21,15 +20,15 @@ use Rattle.claims.specs.Command.{perform}
 use Rattle.claims.specs.Steps.{good}
 use Rattle.claims.specs.Refusals.{performRefusal}
 use Rattle.claims.specs.Refusals as R
-use Rattle.claims.specs.Published.{Published, setStatus, setCopy, performing, stage}
+use Rattle.claims.specs.Published.{Published, setCopy, performing, stage}
 use Rattle.store.specs.declared.Doing.{Doing}
 use Rattle.store.specs.declared.Doing.the-variants.{Quiet, AskingRead, AskingUpdate, Waiting, DoneRead, DoneUpdate}
-use Rattle.store.specs.Layout.{copyWord, homeOf, holdersOf, holds, copyOf}
+use Rattle.store.specs.Layout.{copyWord, homeOf, holds, copyOf}
 use Rattle.store.specs.Doings.{doingAt, doingStored}
 use Rattle.store.specs.Perform.{alone, performReadNumber, performReadWords, performUpdateNumber, copyUpdated, performUpdateWords, performNumberOf, performWordsOf, performNumber, performWords}
 use Rattle.store.specs.Sized.{doingFits}
-use Rattle.store.specs.Step.{Outcome, outcome}
-use Rattle.store.specs.Shows.{statusOf, RegistersShow}
+use Rattle.store.specs.Step.{outcome}
+use Rattle.store.specs.Shows.{statusOf}
 use Rattle.store.specs.Demand2.{StepFollows}
 use Rattle.store.proofs.Showing.{copy-show}
 use Rattle.store.proofs.Sizing.{copy-fit}

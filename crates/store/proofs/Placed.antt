@@ -8,7 +8,7 @@ use lib.Dec.{eqb, ltb, leb}
 use lib.ListN.{length}
 use Rattle.lists.specs.Tests.{and-fst, and-snd, and-intro}
 use Rattle.lists.specs.Conjunctions.{and-three, and-five}
-use Rattle.lists.specs.Every.{each, each-at}
+use Rattle.lists.specs.Every.{each-at}
 use Rattle.names.specs.CardSet.{memberOf}
 use Rattle.names.specs.Placement.{Placement, tasks, registers, home, holders, primary, sizesInRange, homePlaced, homesPlaced, registerPlaced, registersPlaced, sized, placed, placementRefusal}
 use Rattle.channel.specs.Begin.{sizesFit}

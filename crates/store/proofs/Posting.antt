@@ -1,26 +1,23 @@
 -- A message that joins a card's outbox: the memory after it is well sized and shows it.
-use Prim.Native.Nat.{ℕ, suc, _+_, _*_, _%_, _<_, _≤_, _^_}
-use mathlib.Core.Path.{_≡_, refl, sym, ap, _∙_}
+use Prim.Native.Nat.{ℕ, suc, _%_, _<_, _≤_, _^_}
+use mathlib.Core.Path.{_≡_, refl}
 use mathlib.Core.Bool.{Bool, true, false, cond}
 use mathlib.Core.List.{List}
 use native.Mathlib.Nat.{pow-le-pow-right}
 use native.Mathlib.Omega.{arith}
 use borrow.Author.Tests.{ltb-true}
-use lib.Dec.{ltb}
-use lib.ListN.{length}
 use Rattle.names.specs.declared.Body.{Body}
 use Rattle.names.specs.CardSet.{justOf}
 use Rattle.names.specs.Letters.{known}
-use Rattle.names.specs.Placement.{Placement, home}
+use Rattle.names.specs.Placement.{Placement}
 use Rattle.channel.specs.Refusals.{otherwise}
 use Rattle.channel.specs.Layout.{cardsOf, tasksOf, registersOf}
 use Rattle.channel.proofs.Facts.{cards-most, tasks-most}
-use Rattle.channel.proofs.Offered.{registers-most, Fits, fits-of}
+use Rattle.channel.proofs.Offered.{registers-most, fits-of}
 use Rattle.claims.specs.Refusals.{outboxRoom}
 use Rattle.claims.specs.Published.{Published, post}
 use Rattle.store.specs.Layout.{onlyCard}
 use Rattle.store.specs.Outbox.{outCountOf, roomy, posted, letterFor}
-use Rattle.store.specs.Shows.{plain, RegistersShow}
 use Rattle.store.proofs.Words.{posted-long}
 use Rattle.store.proofs.Showing.{post-show}
 use Rattle.store.proofs.Sizing.{post-fit}

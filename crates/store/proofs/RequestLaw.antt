@@ -1,41 +1,38 @@
 -- Steps 1, 2 and 10.
-use Prim.Native.Nat.{ℕ, suc, _+_, _<_, _≤_}
+use Prim.Native.Nat.{ℕ, suc, _+_, _<_}
 use mathlib.Core.Path.{_≡_, refl, sym, ap, _∙_, subst}
 use mathlib.Core.Logic.{_≢_}
 use mathlib.Core.Bool.{Bool, true, false, cond}
 use mathlib.Core.List.{List}
 use native.Mathlib.Numerals.{add-one}
 use native.Mathlib.Omega.{arith}
-use borrow.Author.Tests.{ltb-true, lt-ltb, eq-eqb, ne-eqb, eqb-true}
+use borrow.Author.Tests.{ltb-true, lt-ltb, ne-eqb, eqb-true}
 use lib.Dec.{eqb, ltb}
-use lib.ListN.{length, set, length-set}
-use Rattle.lists.specs.Tests.{clash}
-use Rattle.names.specs.declared.Answer.{Answer}
-use Rattle.names.specs.declared.Task.{Task}
+use lib.ListN.{set, length-set}
 use Rattle.names.specs.declared.Register.{Register}
 use Rattle.names.specs.Placement.{Placement}
 use Rattle.channel.specs.Refusals.{otherwise}
 use Rattle.channel.specs.Layout.{cardsOf, tasksOf, registersOf}
 use Rattle.channel.proofs.Facts.{cards-most, tasks-most}
 use Rattle.channel.proofs.Offered.{registers-most}
-use Rattle.claims.specs.Command.{Command, request-read, request-update, report}
+use Rattle.claims.specs.Command.{request-read, request-update, report}
 use Rattle.claims.specs.Steps.{good}
 use Rattle.claims.specs.Refusals.{requestRefusal, reportRefusal}
-use Rattle.claims.specs.Published.{Published, setStatus, requesting, effect, stage, commandRefusal}
+use Rattle.claims.specs.Published.{Published, setStatus, requesting, effect, stage}
 use Rattle.claims.specs.PublishedRun.{valueOf}
 use Rattle.store.specs.declared.Doing.{Doing}
 use Rattle.store.specs.declared.Doing.the-variants.{Quiet, AskingRead, AskingUpdate, Waiting, DoneRead, DoneUpdate}
 use Rattle.store.specs.Layout.{requestsWord, requestsOf}
 use Rattle.store.specs.Doings.{doingAt, doingStored}
-use Rattle.store.specs.Requests.{bare, isQuiet, requestNumber, requestWords, reportOf, reportAnswer, reportWords}
+use Rattle.store.specs.Requests.{isQuiet, requestNumber, requestWords, reportOf, reportAnswer, reportWords}
 use Rattle.store.specs.Sized.{doingFits}
-use Rattle.store.specs.Step.{Outcome, outcome}
+use Rattle.store.specs.Step.{outcome}
 use Rattle.store.specs.Shows.{statusOf, RegistersShow}
 use Rattle.store.specs.Demand2.{said, StepFollows}
 use Rattle.store.proofs.Words.{doing-long}
 use Rattle.store.proofs.Showing.{requests-show, doing-show}
-use Rattle.store.proofs.Sizing.{RegistersFit, requests-fit, doing-fit}
-use Rattle.store.proofs.Standing.{Ready, ready, stands, registers-ready, follows}
+use Rattle.store.proofs.Sizing.{requests-fit, doing-fit}
+use Rattle.store.proofs.Standing.{Ready, stands, registers-ready, follows}
 
 module _ (rs cs : List ℕ) (P : Placement) (s : Published) (z : Ready rs cs P s) (t : ℕ) (there : t < tasksOf cs) where
   -- what task t is doing is d now

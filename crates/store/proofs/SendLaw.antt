@@ -1,13 +1,12 @@
 -- Steps 4 and 5.
 use Prim.Native.Nat.{ℕ, _<_, _≤_, _^_}
-use mathlib.Core.Path.{_≡_, refl, sym, ap, _∙_}
+use mathlib.Core.Path.{_≡_, refl}
 use mathlib.Core.Logic.{_≢_}
 use mathlib.Core.Bool.{Bool, true, false, cond, _&&_, not}
 use mathlib.Core.List.{List}
 use native.Mathlib.Omega.{arith}
 use borrow.Author.Tests.{leb-true, ne-eqb}
-use lib.Dec.{eqb, ltb, leb}
-use lib.ListN.{length}
+use lib.Dec.{ltb, leb}
 use Rattle.lists.specs.Tests.{and-fst, and-snd, and-intro}
 use Rattle.names.specs.declared.Body.{Body}
 use Rattle.names.specs.declared.Body.the-variants.{ReadDo, UpdateDo}
@@ -24,16 +23,16 @@ use Rattle.claims.specs.Refusals as R
 use Rattle.claims.specs.Published.{Published, sending, sendingRead, sendingUpdate, stage}
 use Rattle.store.specs.declared.Doing.{Doing}
 use Rattle.store.specs.declared.Doing.the-variants.{Quiet, AskingRead, AskingUpdate, Waiting, DoneRead, DoneUpdate}
-use Rattle.store.specs.Layout.{homeOf, holdersOf, holds, onlyCard}
+use Rattle.store.specs.Layout.{homeOf, holdersOf, holds}
 use Rattle.store.specs.Doings.{doingAt}
 use Rattle.store.specs.Outbox.{roomy}
 use Rattle.store.specs.Perform.{alone}
 use Rattle.store.specs.Send.{sent, sendReadNumber, sendReadWords, sendUpdateNumber, sendUpdateWords, readNumberOf, readWordsOf, updateNumberOf, updateWordsOf, readSentNumber, readSentWords, updateSentNumber, updateSentWords}
 use Rattle.store.specs.Sized.{doingFits}
-use Rattle.store.specs.Step.{Outcome, outcome}
+use Rattle.store.specs.Step.{outcome}
 use Rattle.store.specs.Shows.{statusOf}
 use Rattle.store.specs.Demand2.{StepFollows}
-use Rattle.store.proofs.Standing.{Ready, home-there, holds-is, follows}
+use Rattle.store.proofs.Standing.{Ready, holds-is, follows}
 use Rattle.store.proofs.RequestLaw.{doing-ready}
 use Rattle.store.proofs.PerformLaw.{reads-there, updates-there, alone-is}
 use Rattle.store.proofs.Posting.{just-some, just-present, only-just, room-is, post-ready}

@@ -1,14 +1,13 @@
 -- What each change of the registers' memory does to the state that the memory shows.
-use Prim.Native.Nat.{ℕ, suc, _+_, _*_, _%_, _<_, _≤_}
-use mathlib.Core.Path.{_≡_, refl, sym, ap, ap₂, _∙_, subst}
-use mathlib.Core.Logic.{_≢_}
-use mathlib.Core.Bool.{Bool, true, false, cond, _&&_}
+use Prim.Native.Nat.{ℕ, suc, _+_, _%_, _<_, _≤_}
+use mathlib.Core.Path.{_≡_, sym, ap, _∙_}
+use mathlib.Core.Bool.{true, cond, _&&_}
 use mathlib.Core.List.{List, [], _∷_, _++_}
 use native.Mathlib.Decide.{decLt, ℕ-discrete}
 use native.Mathlib.Omega.{arith}
 use borrow.Author.Tests.{eq-eqb, ne-eqb}
 use lib.Dec.{eqb}
-use lib.ListN.{length, getD, set, length-set}
+use lib.ListN.{length, getD, set}
 use lib.Seq.{getD-set-same, getD-set-other}
 use Rattle.lists.specs.Tests.{and-false}
 use Rattle.lists.specs.Queues.{push, pop}
@@ -18,9 +17,9 @@ use Rattle.channel.specs.State.{ChannelState}
 use Rattle.claims.specs.Published.{Published, setStatus, setCopy, post}
 use Rattle.claims.specs.Published as Pub
 use Rattle.store.specs.declared.Doing.{Doing}
-use Rattle.store.specs.Layout.{requestsWord, copyWord, outHeadWord, homeOf, holdersOf, primaryOf, copyOf}
+use Rattle.store.specs.Layout.{requestsWord, copyWord, outHeadWord, copyOf}
 use Rattle.store.specs.Doings.{doingAt, doingStored}
-use Rattle.store.specs.Outbox.{outCountOf, posted, firstOut, unposted}
+use Rattle.store.specs.Outbox.{outCountOf, posted, unposted}
 use Rattle.store.specs.Shows.{statusOf, plain, outboxOf, RegistersShow}
 use Rattle.store.proofs.Words.{doing-cong, doing-word, doing-same, doing-other, outbox-cong, posted-word, post-appends, unposted-word, unpost-drops}
 

@@ -1,14 +1,14 @@
 -- Well-sizedness of the registers' memory, place by place, and that each change of it keeps it.
 use Prim.Native.Nat.{ℕ, suc, _+_, _*_, _%_, _<_, _≤_, _^_, min}
-use mathlib.Core.Path.{_≡_, refl, sym, ap, _∙_, subst}
+use mathlib.Core.Path.{_≡_, _∙_}
 use mathlib.Core.Logic.{_≢_}
-use mathlib.Core.Bool.{Bool, true, false, cond, _&&_}
+use mathlib.Core.Bool.{true, _&&_}
 use mathlib.Core.List.{List}
 use native.Mathlib.Decide.{decLt, ℕ-discrete}
 use native.Mathlib.Omega.{arith}
 use borrow.Author.Tests.{ltb-true, leb-true, lt-ltb, le-leb}
 use lib.Dec.{ltb, leb}
-use lib.ListN.{length, getD, set, length-set}
+use lib.ListN.{length, getD, set}
 use lib.Seq.{getD-set-same, getD-set-other}
 use Rattle.lists.specs.Tests.{and-intro, and-fst, and-snd}
 use Rattle.lists.specs.Conjunctions.{and-three, and-four}
@@ -16,7 +16,7 @@ use Rattle.lists.specs.Every.{each, each-at, each-of}
 use Rattle.names.specs.declared.Body.{Body}
 use Rattle.names.specs.declared.Body.the-variants.{ReadDo, UpdateDo, ReadReply, UpdateReply}
 use Rattle.names.specs.declared.Letter.{Letter}
-use Rattle.names.specs.Letters.{letterAt, kindAt, kindOf, stored}
+use Rattle.names.specs.Letters.{kindAt, kindOf}
 use Rattle.names.proofs.Blocks.{letter-cong, kind-same}
 use Rattle.channel.specs.Layout.{cardsOf, tasksOf, registersOf}
 use Rattle.channel.specs.Letters.{fits}
@@ -26,7 +26,7 @@ use Rattle.store.specs.Layout.{requestsWord, homeWord, kindWord, holders
 use Rattle.store.specs.Doings.{doingKind, doingAt, doingStored}
 use Rattle.store.specs.Outbox.{outHeadOf, outCountOf, outPlace, posted, unposted}
 use Rattle.store.specs.Sized.{doingFits, taskFits, registerFits, outgoing, outFits, outboxFits, registersSized}
-use Rattle.store.proofs.Words.{last, doing-cong, doing-word, doing-kind, doing-same, doing-other, posted-word, posted-count, posted-head, posted-block, posted-last, posted-apart, unposted-word, unposted-count, unposted-head, unposted-place}
+use Rattle.store.proofs.Words.{last, doing-cong, doing-word, doing-kind, doing-same, doing-other, posted-word, posted-count, posted-head, posted-block, posted-last, unposted-word, unposted-count, unposted-head, unposted-place}
 
 pub record RegistersFit (rs cs : List ℕ) : Type 0 where
   pub requests : requestsOf rs ≤ 65535

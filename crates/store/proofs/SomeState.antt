@@ -1,8 +1,7 @@
 -- Any two memories show some placement and some state.
-use Prim.Native.Nat.{ℕ, _<_}
-use mathlib.Core.Path.{_≡_, refl, sym, ap, _∙_}
+use Prim.Native.Nat.{ℕ}
+use mathlib.Core.Path.{refl}
 use mathlib.Core.List.{List}
-use lib.ListN.{length, getD}
 use Rattle.lists.specs.Listings.{listing, listing-length, listing-at}
 use Rattle.names.specs.Placement.{Placement, placement}
 use Rattle.channel.specs.Layout.{cardsOf, tasksOf, registersOf}

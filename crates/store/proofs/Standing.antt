@@ -1,34 +1,27 @@
 -- Well-sized memories that show a state, taken apart; and a step's law from its parts.
-use Prim.Native.Nat.{ℕ, _<_, _≤_}
-use mathlib.Core.Path.{_≡_, refl, sym, ap, _∙_}
+use Prim.Native.Nat.{ℕ, _<_}
+use mathlib.Core.Path.{_≡_, refl}
 use mathlib.Core.Logic.{_≢_}
-use mathlib.Core.Bool.{Bool, true, false, cond, _&&_}
+use mathlib.Core.Bool.{Bool, true, false, cond}
 use mathlib.Core.List.{List}
-use native.Mathlib.Omega.{arith}
 use borrow.Author.Tests.{lt-ltb, eqb-true, eq-eqb}
-use lib.Dec.{eqb, ltb}
+use lib.Dec.{eqb}
 use lib.ListN.{length}
 use Rattle.lists.specs.Tests.{and-fst, and-snd, and-intro, clash}
 use Rattle.lists.specs.Listings.{listing-length}
-use Rattle.names.specs.CardSet.{memberOf}
-use Rattle.names.specs.Placement.{Placement, tasks, registers, home, holders, copy}
-use Rattle.channel.specs.State.{ChannelState}
+use Rattle.names.specs.Placement.{Placement, tasks, registers, home, copy}
 use Rattle.channel.specs.Layout.{cardsOf, tasksOf, registersOf}
 use Rattle.channel.specs.Sized.{wellSized}
-use Rattle.channel.proofs.Facts.{cards-most, tasks-most}
-use Rattle.channel.proofs.Offered.{registers-most}
 use Rattle.claims.specs.Command.{Command}
 use Rattle.claims.specs.Steps.{good}
 use Rattle.claims.specs.Published.{Published, effect, commandRefusal}
-use Rattle.claims.specs.Published as Pub
-use Rattle.claims.specs.PublishedRun.{valueAt, answerDecoded, afterDecoded}
-use Rattle.store.specs.Layout.{homeOf, holdersOf, holds}
+use Rattle.claims.specs.PublishedRun.{valueAt}
+use Rattle.store.specs.Layout.{holds}
 use Rattle.store.specs.Outbox.{outCountOf}
-use Rattle.store.specs.Requests.{bare}
 use Rattle.store.specs.Sized.{registersSized, storeSized}
-use Rattle.store.specs.Step.{Outcome, outcome}
-use Rattle.store.specs.Shows.{outboxOf, RegistersShow, ChannelShows, StoreShows}
-use Rattle.store.specs.Demand2.{Stands, said, StepFollows}
+use Rattle.store.specs.Step.{outcome}
+use Rattle.store.specs.Shows.{outboxOf, RegistersShow, ChannelShows}
+use Rattle.store.specs.Demand2.{Stands, StepFollows}
 use Rattle.store.proofs.Sizing.{RegistersFit, fit-of, of-fit}
 
 -- the two memories, part by part

@@ -1,13 +1,11 @@
 -- The start: the words of the registers' memory, that they are well sized, and that both memories show the placement and the beginning.
-use Prim.Native.Nat.{ℕ, zero, suc, _+_, _*_, _%_, _<_, _≤_, _^_}
+use Prim.Native.Nat.{ℕ, zero, suc, _+_, _*_, _%_, _<_, _≤_}
 use mathlib.Core.Path.{_≡_, refl, sym, ap, _∙_}
 use mathlib.Core.Logic.{_≢_}
-use mathlib.Core.Bool.{Bool, true, false, cond}
-use mathlib.Core.List.{List, []}
+use mathlib.Core.List.{List}
 use native.Mathlib.Decide.{ℕ-discrete}
 use native.Mathlib.Omega.{arith}
 use borrow.Author.Tests.{eq-eqb, ne-eqb}
-use lib.Dec.{eqb}
 use lib.ListN.{length, getD, set, replicate, length-set, length-replicate}
 use lib.Seq.{getD-set-same, getD-set-other}
 use Rattle.lists.specs.Loops.{turns, turns-zero, turns-suc}
@@ -18,7 +16,7 @@ use Rattle.channel.specs.Layout.{cardsOf, tasksOf, registersOf}
 use Rattle.channel.specs.Begin.{beginMemory}
 use Rattle.channel.proofs.ChannelLaw.{begin-follows}
 use Rattle.channel.proofs.Offered.{begun-sized, begun-length}
-use Rattle.claims.specs.Published.{begin, quiet}
+use Rattle.claims.specs.Published.{begin}
 use Rattle.store.specs.Layout.{homeWord, kindWord, holdersWord, primaryWord, copyWord, outHeadWord, outCountWord}
 use Rattle.store.specs.Doings.{doingOf, doingAt}
 use Rattle.store.specs.declared.Doing.the-variants.{Quiet}

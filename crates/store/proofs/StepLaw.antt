@@ -1,25 +1,20 @@
 -- Demand 2.
-use Prim.Native.Nat.{ℕ, _<_}
-use mathlib.Core.Path.{_≡_, refl, sym, ap, _∙_, subst}
-use mathlib.Core.Bool.{Bool, true, false, cond, _&&_}
+use Prim.Native.Nat.{ℕ}
+use mathlib.Core.Path.{_≡_, refl, subst}
+use mathlib.Core.Bool.{true, false}
 use mathlib.Core.List.{List}
 use borrow.Author.Tests.{lt-ltb}
-use lib.Dec.{ltb, leb}
-use lib.ListN.{length, getD}
 use Rattle.lists.specs.Tests.{and-intro}
-use Rattle.names.specs.Placement.{Placement, tasks, registers}
+use Rattle.names.specs.Placement.{Placement}
 use Rattle.channel.specs.Layout.{cardsOf, tasksOf, registersOf}
-use Rattle.claims.specs.Steps.{RawStep, bad, decode}
+use Rattle.claims.specs.Steps.{RawStep, decode}
 use Rattle.claims.specs.Published.{Published}
-use Rattle.store.specs.declared.Doing.the-variants.{AskingUpdate}
-use Rattle.store.specs.declared.Command.{Command}
 use Rattle.store.specs.declared.Command.the-variants.{RequestRead, RequestUpdate, Perform, SendRead, SendUpdate, Dispatch, TakeBroadcast, TakeSingle, Deliver, Report}
 use Rattle.store.specs.declared.Decoded.{Decoded}
 use Rattle.store.specs.declared.Decoded.the-variants.{Good, Bad}
 use Rattle.store.specs.Decode.{decodeOf}
 use Rattle.store.specs.Sized.{doingFits, storeSized}
-use Rattle.store.specs.Step.{Outcome, outcome, taken, obeyed, advanced, stepped}
-use Rattle.store.specs.Shows.{StoreShows}
+use Rattle.store.specs.Step.{outcome, taken, obeyed, advanced, stepped}
 use Rattle.store.specs.Demand2.{Stands, StepFollows}
 use Rattle.store.proofs.Standing.{Ready, ready, stands}
 use Rattle.store.proofs.RequestLaw.{request-read-follows, request-update-follows, report-follows}
@@ -27,7 +22,7 @@ use Rattle.store.proofs.PerformLaw.{perform-follows}
 use Rattle.store.proofs.SendLaw.{send-read-follows, send-update-follows}
 use Rattle.store.proofs.TrafficLaw.{dispatch-follows, take-broadcast-follows, take-single-follows}
 use Rattle.store.proofs.DeliverLaw.{deliver-follows}
-use Rattle.store.proofs.DecodeLaw.{commandShown, decodedShown, InRange, decode-is, decode-range}
+use Rattle.store.proofs.DecodeLaw.{decodedShown, InRange, decode-is, decode-range}
 
 module _ (rs cs : List ℕ) (P : Placement) (s : Published) (z : Ready rs cs P s) where
   -- a decoded step
@@ -65,3 +60,8 @@ step-follows rs cs P s z a = rw (z .sized) (advance-follows rs cs P s (ready rs 
 pub ill-sized : (rs cs : List ℕ) → storeSized rs cs ≡ false → (a : RawStep) → stepped rs cs (a .code) (a .argument) ≡ outcome 6 rs cs
 unfolding stepped
 ill-sized rs cs e a = rw e
+
+-- on a well-sized state the check changes nothing
+pub advance-is : (rs cs : List ℕ) → storeSized rs cs ≡ true → (a : RawStep) → stepped rs cs (a .code) (a .argument) ≡ advanced rs cs (a .code) (a .argument)
+unfolding stepped
+advance-is rs cs e a = rw e

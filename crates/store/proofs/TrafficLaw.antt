@@ -1,27 +1,26 @@
 -- Steps 6, 7 and 8.
-use Prim.Native.Nat.{ℕ, zero, suc, _+_, _%_, _<_, _≤_}
-use mathlib.Core.Path.{_≡_, refl, sym, ap, _∙_}
-use mathlib.Core.Logic.{_≢_}
-use mathlib.Core.Bool.{Bool, true, false, cond, _&&_}
+use Prim.Native.Nat.{ℕ, zero, suc, _+_, _%_, _<_}
+use mathlib.Core.Path.{_≡_, refl, sym, _∙_}
+use mathlib.Core.Bool.{true, false, _&&_}
 use mathlib.Core.List.{List, [], _∷_}
 use native.Mathlib.Omega.{arith}
-use borrow.Author.Tests.{lt-ltb, eq-eqb, ne-eqb, eqb-true}
-use lib.Dec.{eqb, ltb, leb}
-use lib.ListN.{length, getD}
-use Rattle.lists.specs.Tests.{and-fst, and-snd, bool}
+use borrow.Author.Tests.{lt-ltb, ne-eqb}
+use lib.Dec.{eqb, leb}
+use lib.ListN.{length}
+use Rattle.lists.specs.Tests.{and-snd}
 use Rattle.lists.specs.Listings.{listing-zero}
 use Rattle.names.specs.declared.Card.{Card}
 use Rattle.names.specs.declared.Task.{Task}
 use Rattle.names.specs.declared.Letter.{Letter}
-use Rattle.names.specs.Letters.{letterAt, kindAt}
-use Rattle.names.specs.Placement.{Placement, tasks, registers}
+use Rattle.names.specs.Letters.{kindAt}
+use Rattle.names.specs.Placement.{Placement}
 use Rattle.channel.specs.State.{ChannelState, channelStep}
 use Rattle.channel.specs.State as C
-use Rattle.channel.specs.Refusals.{otherwise, channelRefusal}
+use Rattle.channel.specs.Refusals.{channelRefusal}
 use Rattle.channel.specs.Layout.{cardsOf, tasksOf, registersOf}
 use Rattle.channel.specs.Letters.{fits}
 use Rattle.channel.specs.Answers.{answerNumber}
-use Rattle.channel.specs.Dispatch.{letterOf, dispatchAnswer, dispatchMemory}
+use Rattle.channel.specs.Dispatch.{letterOf}
 use Rattle.channel.specs.TakeBroadcast.{takeAnswer, takeMemory}
 use Rattle.channel.specs.TakeSingle.{singleAnswer, singleMemory}
 use Rattle.channel.specs.Sized.{wellSized}
@@ -31,17 +30,15 @@ use Rattle.channel.proofs.Fitting.{same-cards, same-tasks, fits-same}
 use Rattle.channel.proofs.Offered.{registers-most, same-registers}
 use Rattle.claims.specs.Command.{dispatch, takeBroadcast, takeSingle}
 use Rattle.claims.specs.Steps.{good}
-use Rattle.claims.specs.Refusals.{headRefusal}
-use Rattle.claims.specs.Published.{Published, mail, withChannel, dispatching, commandRefusal, answered}
+use Rattle.claims.specs.Published.{Published, mail, withChannel, dispatching}
 use Rattle.claims.specs.Published as Pub
 use Rattle.store.specs.declared.Doing.{Doing}
 use Rattle.store.specs.declared.Doing.the-variants.{Quiet, AskingRead, AskingUpdate, Waiting, DoneRead, DoneUpdate}
-use Rattle.store.specs.Layout.{outBlock}
 use Rattle.store.specs.Doings.{doingAt}
 use Rattle.store.specs.Outbox.{outHeadOf, outCountOf, outPlace, firstOut, unposted}
 use Rattle.store.specs.Traffic.{dispatchNumber, dispatchRegisters, dispatchChannel}
 use Rattle.store.specs.Sized.{doingFits, outgoing, outFits}
-use Rattle.store.specs.Step.{Outcome, outcome}
+use Rattle.store.specs.Step.{outcome}
 use Rattle.store.specs.Shows.{plain, outboxOf, RegistersShow, ChannelShows}
 use Rattle.store.specs.Demand2.{StepFollows}
 use Rattle.store.proofs.Words.{unposted-long, unpost-drops}

@@ -8,12 +8,10 @@ use native.Mathlib.Omega.{arith}
 use borrow.Author.Tests.{lt-ltb, ne-eqb}
 use lib.ListN.{length, getD, set, length-set}
 use lib.Seq.{getD-set-same, getD-set-other}
-use Rattle.lists.specs.Listings.{listing, listing-snoc, listing-cons, listing-cong}
-use Rattle.names.specs.declared.Register.{Register}
+use Rattle.lists.specs.Listings.{listing-snoc, listing-cons, listing-cong}
 use Rattle.names.specs.declared.Letter.{Letter}
 use Rattle.names.specs.Letters.{letterAt, stored}
 use Rattle.names.proofs.Blocks.{word-other, letter-cong, letter-same, length-stored}
-use Rattle.claims.specs.Published as Pub
 use Rattle.store.specs.declared.Doing.{Doing}
 use Rattle.store.specs.declared.Doing.the-variants.{Quiet, AskingRead, AskingUpdate, Waiting, DoneRead, DoneUpdate}
 use Rattle.store.specs.Layout.{kindWord, askedWord, functionWord, valueWord, outHeadWord, outCountWord, outBlock}

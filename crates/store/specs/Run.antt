@@ -7,7 +7,7 @@ use Rattle.claims.specs.Steps.{RawStep}
 use Rattle.claims.specs.PublishedRun.{Answer}
 use Rattle.store.specs.Layout.{copyOf}
 use Rattle.store.specs.Start.{startRegisters, startChannel}
-use Rattle.store.specs.Step.{stepped}
+use Rattle.store.specs.Step.{advanced, stepped}
 use Rattle.store.specs.Demand2.{said}
 
 -- the two memories
@@ -37,6 +37,21 @@ storeAfter m (a ∷ l) = storeAfter (next m a) l
 abbrev pub answersOf : Store → List RawStep → List Answer
 answersOf m [] = []
 answersOf m (a ∷ l) = answer m a ∷ answersOf (next m a) l
+
+-- the same by steps that do not check the state
+abbrev pub advance : Store → RawStep → Store
+advance m a = record {
+  registers = advanced (m .registers) (m .channel) (a .code) (a .argument) .registers;
+  channel = advanced (m .registers) (m .channel) (a .code) (a .argument) .channel;
+}
+
+abbrev pub advanceAll : Store → List RawStep → Store
+advanceAll m [] = m
+advanceAll m (a ∷ l) = advanceAll (advance m a) l
+
+abbrev pub answersAdvancing : Store → List RawStep → List Answer
+answersAdvancing m [] = []
+answersAdvancing m (a ∷ l) = said (advanced (m .registers) (m .channel) (a .code) (a .argument) .answer) ∷ answersAdvancing (advance m a) l
 
 -- "the store's table of copies"
 abbrev pub tableOf : Store → ℕ → ℕ → ℕ

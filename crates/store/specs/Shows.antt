@@ -1,10 +1,9 @@
 -- What the two memories show: a placement and a state of the published algorithm (000, Figures 5 and 7), for each card, task and register
 -- that is present. Of the channel's memory only what the channel says that it shows; the registers forget a letter's sender, which the
 -- published algorithm's letters do not have.
-use Prim.Native.Nat.{ℕ, _+_, _%_, _<_}
+use Prim.Native.Nat.{ℕ, _<_}
 use mathlib.Core.Path.{_≡_}
-use mathlib.Core.List.{List, map}
-use lib.ListN.{length}
+use mathlib.Core.List.{List}
 use Rattle.lists.specs.Listings.{listing}
 use Rattle.names.specs.declared.Letter.{Letter}
 use Rattle.names.specs.Letters.{letterAt}
