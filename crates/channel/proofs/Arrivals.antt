@@ -13,7 +13,7 @@ use Rattle.lists.specs.Tests.{eqb-refl}
 use Rattle.lists.specs.Histories.{Any, here, there, At, now, before, suf-at, In}
 use Rattle.lists.specs.Queues.{push-old, push-new}
 use Rattle.channel.specs.Mail.{Mail}
-use Rattle.channel.specs.State.{Tagged, ChannelState, nth, released, kept, ChannelAction, dispatch, takeBroadcast, takeSingle, deliver, dispatching, taking, landing, arriving, channelStep}
+use Rattle.channel.specs.State.{Tagged, ChannelState, nth, released, kept, ChannelAction, dispatch, takeBroadcast, takeSingle, deliver, dispatching, taking, landing, arriving, channelStep, ripe}
 use Rattle.channel.specs.Network.{Network}
 use Rattle.channel.specs.Automaton.{Step, mcast, take, join, rest, Mcasts, Joins, Chan, chan, ChannelExecution}
 use Rattle.channel.specs.TotalOrder.{epoch}
@@ -71,7 +71,7 @@ module _ {M : Type 0} (N : Network M) where
 
     held-single : (c : ℕ) (o : Option (Tagged M)) → Arrived m t a (arriving (N .mail) w c o) (steps-single (N .mail) w o E)
     held-single c none = held below h
-    held-single c (some x) = go (leb (x .mark) (w .taken (N .mail .dest (x .msg))))
+    held-single c (some x) = go (ripe (N .mail) w x)
       where
         go : (u : Bool) → Arrived m t a (landing (N .mail) u w c x) (cond u (join (x .msg) ∷ E) E)
         go true = held below h
@@ -103,7 +103,7 @@ module _ {M : Type 0} (N : Network M) where
       i : ℕ
       i = N .mail .dest (x .msg)
 
-      go : (u : Bool) → leb (x .mark) (w .taken (N .mail .dest (x .msg))) ≡ u
+      go : (u : Bool) → ripe (N .mail) w x ≡ u
           → Arrived (x .msg) (x .mark) (w .taken (N .mail .dest (x .msg))) (landing (N .mail) u w c x) (cond u (join (x .msg) ∷ E) E)
       go true q =
           let k = leb-true (x .mark) (w .taken (N .mail .dest (x .msg))) q in

@@ -14,7 +14,7 @@ use Rattle.channel.specs.Begin.{sizesFit, begun}
 use Rattle.channel.specs.TakeSingle.{noFlight}
 use Rattle.channel.specs.Sized.{flightFits, headFits}
 use Rattle.channel.specs.Shows.{inboxOf, heldOf, flightOf, Shows}
-use Rattle.channel.proofs.Fitting.{Fit}
+use Rattle.channel.proofs.WellSizedParts.{Fit}
 
 abbrev blank : List ℕ
 blank = replicate 4808 0

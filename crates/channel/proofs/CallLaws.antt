@@ -1,5 +1,5 @@
 -- Each call on a well-sized memory does and answers what the idealised channel does and answers.
-use Prim.Native.Nat.{ℕ}
+use Prim.Native.Nat.{ℕ, _+_}
 use mathlib.Core.Path.{_≡_, refl, sym, ap, _∙_}
 use mathlib.Core.Bool.{Bool, true, false, cond, _&&_}
 use mathlib.Core.Logic.{_≢_}
@@ -17,8 +17,9 @@ use Rattle.channel.specs.declared.Answer.the-variants.{NoCard}
 use Rattle.channel.specs.declared.Received.the-variants.{Got, NoSuchCard, Empty}
 use Rattle.channel.specs.State.{ChannelState, ChannelAction, dispatch, takeBroadcast, takeSingle, deliver, channelStep}
 use Rattle.channel.specs.Refusals.{otherwise, channelRefusal}
-use Rattle.channel.specs.Layout.{cardsOf, tasksOf, countOf}
+use Rattle.channel.specs.Layout.{cardsOf, tasksOf, countOf, broadcastBlock, madeOf}
 use Rattle.names.specs.CardSet.{several}
+use Rattle.names.specs.Letters.{letterAt}
 use Rattle.channel.specs.Letters.{fits}
 use Rattle.channel.specs.Answers.{answerNumber, receivedNumber, isDone}
 use Rattle.channel.specs.Inbox.{gotOf, popped, receiveAnswer, receiveMemory}
@@ -26,21 +27,23 @@ use Rattle.channel.specs.TakeBroadcast.{takeAnswer, takeMemory}
 use Rattle.channel.specs.TakeSingle.{singleAnswer, singleMemory}
 use Rattle.channel.specs.Dispatch.{castAnswer, castMemory, flyAnswer, flyMemory, letterOf, dispatchAnswer, dispatchMemory}
 use Rattle.channel.specs.Sized.{wellSized}
-use Rattle.channel.specs.Shows.{letterMail, Shows}
+use Rattle.channel.specs.Shows.{letterMail, Shows, stateOf}
 use Rattle.channel.specs.Calls.{done}
 use Rattle.channel.specs.MemoryCalls.{Call, dispatchCall, takeBroadcastCall, takeSingleCall, receiveCall, callNumber, callMemory, actionOf, orElse, absent, unfit, callRefusal, letters, CallFollows}
-use Rattle.channel.proofs.Facts.{Sized}
-use Rattle.channel.proofs.Answering.{done-number}
+use Rattle.channel.proofs.SizedFacts.{Sized}
+use Rattle.channel.proofs.AnswerNumbers.{done-number}
 use Rattle.channel.proofs.Receiving.{receive-number, receive-left}
 use Rattle.channel.proofs.TakeBroadcastLaw.{take-number, take-left}
 use Rattle.channel.proofs.TakeSingleLaw.{single-number, single-left}
 use Rattle.channel.proofs.DispatchLaw.{dispatch-number, dispatch-left}
-use Rattle.channel.proofs.Fitting.{Fit, fit-of, of-fit}
-use Rattle.channel.proofs.FitSized.{sized-of}
+use Rattle.channel.proofs.WellSizedParts.{Fit, fit-of, of-fit}
+use Rattle.channel.proofs.FitKept.{sized-of}
 use Rattle.channel.proofs.SizedReceive.{receive-keeps}
 use Rattle.channel.proofs.SizedTakeBroadcast.{take-keeps}
 use Rattle.channel.proofs.SizedTakeSingle.{single-keeps}
 use Rattle.channel.proofs.SizedDispatch.{dispatch-keeps}
+use Rattle.channel.proofs.Places.{nth-listing}
+use Rattle.lists.specs.Listings.{listing-length}
 
 -- ---- refusals
 
@@ -108,20 +111,26 @@ module _ (ws : List ℕ) (w : ChannelState Letter) (long : length ws ≡ 4808) (
       → Shows us (cond (done (letters ws) w x) (channelStep letterMail w x) w)
   reads us x r e s = rw (refused-is ws w x, ← e) s
 
-  dispatch-refusal : (card : Card) (m : Message) (to : ℕ) → cond (ltb (card .0) (cardsOf ws)) (orElse (channelRefusal letterMail (cardsOf ws) w (dispatch (card .0) (letterOf card m to))) (otherwise 6 (fits ws (letterOf card m to)))) 14
+  dispatch-refusal : (card : Card) (m : Message) (to : ℕ)
+      → cond (ltb (card .0) (cardsOf ws))
+      (orElse (channelRefusal letterMail (cardsOf ws) w (dispatch (card .0) (letterOf card m to))) (otherwise 6 (fits ws (letterOf card m to)))) 14
       ≡ callRefusal ws w (actionOf (dispatchCall card m to))
   unfolding callRefusal
   dispatch-refusal card m to = present (ltb (card .0) (cardsOf ws)) _ 14 (omega arith)
 
-  take-refusal : (card : Card) → cond (ltb (card .0) (cardsOf ws)) (channelRefusal letterMail (cardsOf ws) w (takeBroadcast (card .0))) 14 ≡ callRefusal ws w (actionOf (takeBroadcastCall card))
+  take-refusal : (card : Card)
+      → cond (ltb (card .0) (cardsOf ws)) (channelRefusal letterMail (cardsOf ws) w (takeBroadcast (card .0))) 14
+      ≡ callRefusal ws w (actionOf (takeBroadcastCall card))
   unfolding callRefusal
   take-refusal card = ap (λ r. cond (ltb (card .0) (cardsOf ws)) r 14) (fine _) ∙ present (ltb (card .0) (cardsOf ws)) _ 14 (omega arith)
 
-  single-refusal : (task : Task) → cond (ltb (task .0) (tasksOf ws)) (channelRefusal letterMail (cardsOf ws) w (takeSingle (task .0))) 12 ≡ callRefusal ws w (actionOf (takeSingleCall task))
+  single-refusal : (task : Task)
+      → cond (ltb (task .0) (tasksOf ws)) (channelRefusal letterMail (cardsOf ws) w (takeSingle (task .0))) 12 ≡ callRefusal ws w (actionOf (takeSingleCall task))
   unfolding callRefusal
   single-refusal task = ap (λ r. cond (ltb (task .0) (tasksOf ws)) r 12) (fine _) ∙ present (ltb (task .0) (tasksOf ws)) _ 12 (omega arith)
 
-  receive-refusal : (card : Card) → cond (ltb (card .0) (cardsOf ws)) (channelRefusal letterMail (cardsOf ws) w (deliver (card .0))) 14 ≡ callRefusal ws w (actionOf (receiveCall card))
+  receive-refusal : (card : Card)
+      → cond (ltb (card .0) (cardsOf ws)) (channelRefusal letterMail (cardsOf ws) w (deliver (card .0))) 14 ≡ callRefusal ws w (actionOf (receiveCall card))
   unfolding callRefusal
   receive-refusal card = ap (λ r. cond (ltb (card .0) (cardsOf ws)) r 14) (fine _) ∙ present (ltb (card .0) (cardsOf ws)) _ 14 (omega arith)
 
@@ -197,3 +206,19 @@ module _ (ws : List ℕ) (w : ChannelState Letter) (long : length ws ≡ 4808) (
   call-follows (takeBroadcastCall card) = take-follows card
   call-follows (takeSingleCall task) = single-follows task
   call-follows (receiveCall card) = receive-follows card
+
+-- every memory shows a state
+pub shows-state : (ws : List ℕ) → Shows ws (stateOf ws)
+unfolding stateOf
+shows-state ws = record {
+  made= = listing-length _ (madeOf ws);
+  sent= = λ n p q. nth-listing (λ k. letterAt ws (broadcastBlock (k + 1))) (madeOf ws) n p;
+  taken= = λ i c. refl;
+  flight= = λ t h. refl;
+  held= = λ i c. refl;
+  inbox= = λ i c. refl;
+}
+
+-- so each call on a well-sized memory follows the idealised channel, whether or not calls ever lead to it
+pub any-follows : (ws : List ℕ) → length ws ≡ 4808 → wellSized ws ≡ true → (c : Call) → CallFollows ws (stateOf ws) c
+any-follows ws long ok c = call-follows ws (stateOf ws) long ok (shows-state ws) c

@@ -1,5 +1,4 @@
 -- Every list of calls keeps the promise, whatever the calls are.
-use lib.Dec.{leb}
 use mathlib.Core.Path.{_≡_, refl, sym, ap, _∙_}
 use mathlib.Core.Bool.{Bool, true, false, cond}
 use mathlib.Core.List.{List, [], _∷_}
@@ -9,8 +8,7 @@ use native.Mathlib.Omega.{arith}
 use native.Mathlib.Numerals.{add-one}
 use lib.ListN.{length, length-append}
 use Rattle.lists.specs.Histories.{Any, here, there, Suf, stop, any-map, any-nil, at-map, suf-tail}
-use Rattle.channel.specs.Mail.{Mail}
-use Rattle.channel.specs.State.{Tagged, ChannelState, nth, released, ChannelAction, dispatch, takeBroadcast, takeSingle, deliver, channelStep}
+use Rattle.channel.specs.State.{Tagged, ChannelState, nth, released, ChannelAction, dispatch, takeBroadcast, takeSingle, deliver, channelStep, ripe}
 use Rattle.channel.specs.Network.{Network}
 use Rattle.channel.specs.Automaton.{Step, mcast, take, join, Mcasts, ChannelExecution}
 use Rattle.channel.specs.Trace.{steps-take, steps-single, steps-deliver, steps}
@@ -37,7 +35,7 @@ module _ {M : Type 0} (N : Network ℕ) (w : ChannelState ℕ) (E : List (Step �
 
   low-single : (o : Option (Tagged ℕ)) (k : ℕ) → Any (Mcasts k) (steps-single (N .mail) w o E) → k < length l
   low-single none k h = low k h
-  low-single (some x) k h = go (leb (x .mark) (w .taken (N .mail .dest (x .msg)))) h
+  low-single (some x) k h = go (ripe (N .mail) w x) h
     where
       go : (t : Bool) → Any (Mcasts k) (cond t (join (x .msg) ∷ E) E) → k < length l
       go true (there y) = low k y

@@ -15,7 +15,7 @@ use Rattle.channel.specs.Layout.{cardsOf, tasksOf, registersOf}
 use Rattle.channel.specs.Answers.{answerNumber}
 use Rattle.channel.specs.Begin.{sizesFit, begun, beginAnswer, beginMemory}
 use Rattle.channel.specs.MemoryCalls.{Call, BeginFollows, RunFollows}
-use Rattle.channel.proofs.Fitting.{of-fit}
+use Rattle.channel.proofs.WellSizedParts.{of-fit}
 use Rattle.channel.proofs.BeginLaw.{begun-long, begun-shows, begun-fit, cards-is, tasks-is, registers-is}
 use Rattle.channel.proofs.RunLaw.{run-follows}
 

@@ -13,7 +13,7 @@ use lib.ListN.{length, length-append}
 use Rattle.lists.specs.Tests.{cond-cases}
 use Rattle.lists.specs.Histories.{Any, here, there}
 use Rattle.channel.specs.Mail.{Mail}
-use Rattle.channel.specs.State.{Tagged, ChannelState, nth, dispatch, dispatching, channelStep}
+use Rattle.channel.specs.State.{Tagged, ChannelState, nth, dispatch, dispatching, channelStep, tagging}
 use Rattle.channel.specs.Network.{Network}
 use Rattle.channel.specs.Automaton.{Step, mcast, Mcasts, Joins, Chan, chan, ChannelExecution}
 use Rattle.channel.proofs.Counts.{mark-on, mark-now}
@@ -49,7 +49,7 @@ module _ {M : Type 0} (N : Network M) where
       num x u e = rw u (let k = a .made= in omega arith)
 
       entry : Tagged M
-      entry = record { msg = m; mark = w .taken i }
+      entry = tagging w i m
 
       entry-in-transit : N .mail .multi m ≡ false → InTransit N (mcast m ∷ E) m (w .taken i)
       entry-in-transit u = record {

@@ -24,8 +24,8 @@ use Rattle.channel.specs.TakeSingle.{noFlight}
 use Rattle.channel.specs.Dispatch.{nearAt, near, castAnswer, castMemory, flyAnswer, flyMemory, letterOf, dispatchAnswer, dispatchMemory}
 use Rattle.channel.specs.Shows.{letterMail, taggedAt, flightOf, Shows}
 use Rattle.channel.specs.MemoryCalls.{orElse}
-use Rattle.channel.proofs.Facts.{Sized}
-use Rattle.channel.proofs.Answering.{picked, settle}
+use Rattle.channel.proofs.SizedFacts.{Sized}
+use Rattle.channel.proofs.AnswerNumbers.{picked, settle}
 use Rattle.channel.proofs.Sending.{fly-shows, cast-shows}
 
 -- a fitting letter is of a task that is present
@@ -53,7 +53,8 @@ module _ (ws : List ℕ) (w : ChannelState Letter) (z : Sized ws) (v : Shows ws 
       go false false true = refl
       go false false false = refl
 
-  fly-number : (l : Letter) → answerNumber (flyAnswer ws l) ≡ orElse (flightRefusal letterMail (cardsOf ws) (w .flight (l .message .task .0))) (otherwise 6 (fits ws l))
+  fly-number : (l : Letter)
+      → answerNumber (flyAnswer ws l) ≡ orElse (flightRefusal letterMail (cardsOf ws) (w .flight (l .message .task .0))) (otherwise 6 (fits ws l))
   unfolding flyAnswer answerNumber flightOf
   fly-number l = go (fits ws l) refl
     where
@@ -67,7 +68,8 @@ module _ (ws : List ℕ) (w : ChannelState Letter) (z : Sized ws) (v : Shows ws 
 
       go : (b : Bool) → fits ws l ≡ b → answerNumber (cond b (cond (noFlight ws (l .message .task .0)) Done IllSized) IllSized)
           ≡ orElse (flightRefusal letterMail (cardsOf ws) (w .flight (l .message .task .0))) (otherwise 6 b)
-      go true e = rw (v .flight= (l .message .task .0) (fits-task ws l e)) (slot (noFlight ws (l .message .task .0)) (taggedAt ws (flightBlock (l .message .task .0))))
+      go true e =
+          rw (v .flight= (l .message .task .0) (fits-task ws l e)) (slot (noFlight ws (l .message .task .0)) (taggedAt ws (flightBlock (l .message .task .0))))
       go false e = bad (w .flight (l .message .task .0))
 
   module _ (card : Card) (m : Message) (to : ℕ) where
@@ -78,7 +80,8 @@ module _ (ws : List ℕ) (w : ChannelState Letter) (z : Sized ws) (v : Shows ws 
     l = letterOf card m to
 
     -- 14, 34, 6 as the idealised step has them; 6 too for a letter that does not fit
-    pub dispatch-number : answerNumber (dispatchAnswer ws card m to) ≡ cond (ltb i (cardsOf ws)) (orElse (dispatchRefusal letterMail (cardsOf ws) w l) (otherwise 6 (fits ws l))) 14
+    pub dispatch-number : answerNumber (dispatchAnswer ws card m to)
+        ≡ cond (ltb i (cardsOf ws)) (orElse (dispatchRefusal letterMail (cardsOf ws) w l) (otherwise 6 (fits ws l))) 14
     unfolding dispatchAnswer answerNumber
     dispatch-number = go (ltb i (cardsOf ws)) (several to)
       where
@@ -88,12 +91,14 @@ module _ (ws : List ℕ) (w : ChannelState Letter) (z : Sized ws) (v : Shows ws 
         go true false = fly-number l
         go false c = refl
 
-    cast-left : Shows (castMemory ws l) (cond (eqb (orElse (broadcastRefusal letterMail (cardsOf ws) w) (otherwise 6 (fits ws l))) 0) (dispatching letterMail true w i l) w)
+    cast-left : Shows (castMemory ws l)
+        (cond (eqb (orElse (broadcastRefusal letterMail (cardsOf ws) w) (otherwise 6 (fits ws l))) 0) (dispatching letterMail true w i l) w)
     unfolding castMemory
     cast-left = settle ws _ w _ (castAnswer ws l) _ (cast-number l) v (λ e. cast-shows ws w z v i l)
 
     fly-left : i < cardsOf ws
-        → Shows (flyMemory ws i l) (cond (eqb (orElse (flightRefusal letterMail (cardsOf ws) (w .flight (m .task .0))) (otherwise 6 (fits ws l))) 0) (dispatching letterMail false w i l) w)
+        → Shows (flyMemory ws i l)
+        (cond (eqb (orElse (flightRefusal letterMail (cardsOf ws) (w .flight (m .task .0))) (otherwise 6 (fits ws l))) 0) (dispatching letterMail false w i l) w)
     unfolding flyMemory flyAnswer isDone
     fly-left c =
         settle ws _ w _ (flyAnswer ws l) _ (fly-number l) v

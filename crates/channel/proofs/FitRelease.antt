@@ -22,11 +22,11 @@ use Rattle.channel.specs.TakeBroadcast.{Sweep, sweeps, swept, releasedWo
 use Rattle.channel.specs.Sized.{blockFits, heldFits}
 use Rattle.channel.specs.Shows.{heldOf}
 use Rattle.names.proofs.Blocks.{word-other}
-use Rattle.channel.proofs.View.{pushed-word}
+use Rattle.channel.proofs.InboxRing.{pushed-word}
 use Rattle.channel.proofs.Release.{heldFirst, fewer, Swept, y, at-k, joins-is, stays-is, space, sweeps-swept, end, swept-all, released-is, release-word}
 use Rattle.channel.specs.MemoryCalls.{SameSizes}
-use Rattle.channel.proofs.Fitting.{fits-same}
-use Rattle.channel.proofs.FitMoves.{block-letter, BoxFit, box-same, push-sizes, push-box, HeldFit, held-same, held-put}
+use Rattle.channel.proofs.WellSizedParts.{fits-same}
+use Rattle.channel.proofs.FitQueues.{block-letter, BoxFit, box-same, push-sizes, push-box, HeldFit, held-same, held-put}
 
 pub sizes-trans : (us vs ws : List ℕ) → SameSizes us vs → SameSizes vs ws → SameSizes us ws
 sizes-trans us vs ws p q = record { cards = p .cards ∙ q .cards; tasks = p .tasks ∙ q .tasks; registers = p .registers ∙ q .registers }
@@ -77,7 +77,8 @@ module _ (ws : List ℕ) (i n : ℕ) (card : i < 8) (k : ℕ) (s : Sweep) (h : k
         let t : ℕ = y ws i n card k s h room v .mark in
         let us : List ℕ = stored (s .words) (heldBlock i (s .kept)) l t in
         let few = v .few in
-        let o : (a : ℕ) → ((q : ℕ) → q < 8 → a ≢ heldBlock i (s .kept) * 8 + q) → getD us a 0 ≡ getD (s .words) a 0 = word-other (s .words) (heldBlock i (s .kept)) l t in
+        let o : (a : ℕ) → ((q : ℕ) → q < 8 → a ≢ heldBlock i (s .kept) * 8 + q)
+        → getD us a 0 ≡ getD (s .words) a 0 = word-other (s .words) (heldBlock i (s .kept)) l t in
         let z : SameSizes us (s .words) =
         record { cards = o 0 (λ q r. omega arith); tasks = o 1 (λ q r. omega arith); registers = o 2 (λ q r. omega arith) } in
         let y : SameSizes us ws = sizes-trans us (s .words) ws z (f .sizes) in
@@ -130,7 +131,8 @@ module _ (ws : List ℕ) (i n : ℕ) (card : i < 8) (long : length ws ≡ 4808) 
   pub release-count : heldCountOf us i ≡ end ws i n card long few room .kept
   release-count =
       let s = swept-all ws i n card long few room in
-      rw (released-is ws i n card long few room) (getD-set-same (end ws i n card long few room .words) (heldWord i) (end ws i n card long few room .kept) 0 (omega (arith, s .long)))
+      rw (released-is ws i n card long few room)
+      (getD-set-same (end ws i n card long few room .words) (heldWord i) (end ws i n card long few room .kept) 0 (omega (arith, s .long)))
 
   pub release-few : heldCountOf us i ≤ 16
   release-few = let s = swept-all ws i n card long few room in omega (arith, release-count, s .few)
@@ -141,4 +143,6 @@ module _ (ws : List ℕ) (i n : ℕ) (card : i < 8) (long : length ws ≡ 4808) 
       (λ a p q. last-word a (omega arith)) (swept-fit .box)
 
   pub release-fit : HeldFit us i (heldCountOf us i)
-  release-fit = rw release-count (held-same us (end ws i n card long few room .words) i (end ws i n card long few room .kept) last-sizes (λ a p q. last-word a (omega arith)) (swept-fit .held))
+  release-fit =
+      rw release-count
+      (held-same us (end ws i n card long few room .words) i (end ws i n card long few room .kept) last-sizes (λ a p q. last-word a (omega arith)) (swept-fit .held))

@@ -14,8 +14,8 @@ use Rattle.channel.specs.Layout.{takenWord, headWord, countWord, heldWor
 use Rattle.channel.specs.TakeSingle.{noFlight}
 use Rattle.channel.specs.Shows.{inboxOf, heldOf, flightOf, Shows}
 use Rattle.names.proofs.Blocks.{letter-cong}
-use Rattle.channel.proofs.View.{tagged-cong, held-cong, ring-cong}
-use Rattle.channel.proofs.Facts.{cards-most, cards-words, tasks-words}
+use Rattle.channel.proofs.InboxRing.{tagged-cong, held-cong, ring-cong}
+use Rattle.channel.proofs.SizedFacts.{cards-most, cards-words, tasks-words}
 
 -- card j's part
 module _ (us ws : List ℕ) (j : ℕ) (e : (a : ℕ) → takenWord j ≤ a → a < takenWord (j + 1) → getD us a 0 ≡ getD ws a 0) where
@@ -31,7 +31,8 @@ module _ (us ws : List ℕ) (j : ℕ) (e : (a : ℕ) → takenWord j ≤ a → a
       rw (e (heldWord j) (omega arith) (omega arith))
       (held-cong us ws j (heldCountOf ws j) (λ a p q. e a (omega arith) (omega arith)))
 
-pub flight-words : (us ws : List ℕ) (t : ℕ) → ((a : ℕ) → flightBlock t * 8 ≤ a → a < flightBlock (t + 1) * 8 → getD us a 0 ≡ getD ws a 0) → flightOf us t ≡ flightOf ws t
+pub flight-words : (us ws : List ℕ) (t : ℕ) → ((a : ℕ) → flightBlock t * 8 ≤ a → a < flightBlock (t + 1) * 8 → getD us a 0 ≡ getD ws a 0)
+    → flightOf us t ≡ flightOf ws t
 unfolding flightOf noFlight
 flight-words us ws t e = rw (e (flightBlock t * 8) (omega arith) (omega arith), tagged-cong us ws (flightBlock t) (λ k g. e _ (omega arith) (omega arith)))
 
@@ -55,7 +56,8 @@ outside-word i us ws o j a n p q = go (decLt j i)
     go (no g) = o .high a (omega arith)
 
 -- only card i's part of the words and of the state changed
-pub card-shows : (ws us : List ℕ) (w x : ChannelState Letter) (i : ℕ) → i < cardsOf ws → ((j : ℕ) → j < cardsOf ws → heldCountOf ws j ≤ 16) → Shows ws w → Outside i us ws
+pub card-shows : (ws us : List ℕ) (w x : ChannelState Letter) (i : ℕ) → i < cardsOf ws → ((j : ℕ) → j < cardsOf ws → heldCountOf ws j ≤ 16)
+    → Shows ws w → Outside i us ws
     → x .sent ≡ w .sent → ((t : ℕ) → x .flight t ≡ w .flight t)
     → ((j : ℕ) → j ≢ i → (x .taken j ≡ w .taken j) × (x .held j ≡ w .held j) × (x .inbox j ≡ w .inbox j))
     → x .taken i ≡ takenOf us i → x .held i ≡ heldOf us i → x .inbox i ≡ inboxOf us i → Shows us x

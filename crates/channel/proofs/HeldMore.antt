@@ -15,7 +15,7 @@ use Rattle.names.specs.Letters.{stored}
 use Rattle.channel.specs.TakeSingle.{heldMore}
 use Rattle.channel.specs.Shows.{taggedAt, inboxOf, heldOf}
 use Rattle.names.proofs.Blocks.{word-other, letter-same, mark-same, length-stored}
-use Rattle.channel.proofs.View.{tagged-cong, held-cong, ring-cong}
+use Rattle.channel.proofs.InboxRing.{tagged-cong, held-cong, ring-cong}
 
 module _ (ws : List ℕ) (i : ℕ) (l : Letter) (tag : ℕ) (card : i < 8) (long : length ws ≡ 4808) (room : heldCountOf ws i < 16) where
   abbrev pub place : ℕ

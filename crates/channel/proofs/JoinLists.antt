@@ -1,5 +1,5 @@
 -- Several messages that join in a row, as a take releases them; and an operation's steps as a part of the history.
-use lib.Dec.{eqb, leb}
+use lib.Dec.{eqb}
 use mathlib.Core.Path.{_≡_, refl, sym, _∙_, subst}
 use mathlib.Core.Logic.{_⊎_, inl, inr}
 use mathlib.Core.Bool.{Bool, true, false, cond}
@@ -9,7 +9,7 @@ use Prim.Native.Nat.{ℕ, suc, _≤_}
 use Rattle.lists.specs.Histories.{Any, Suf, suf-any, stop, back, suf-trans, In, here, there}
 use Rattle.lists.specs.Queues.{push, Once}
 use Rattle.channel.specs.Mail.{Mail}
-use Rattle.channel.specs.State.{Tagged, ChannelState, nth, released, ChannelAction, dispatch, takeBroadcast, takeSingle, deliver}
+use Rattle.channel.specs.State.{Tagged, ChannelState, nth, released, ChannelAction, dispatch, takeBroadcast, takeSingle, deliver, ripe}
 use Rattle.channel.specs.Network.{Network}
 use Rattle.channel.specs.Automaton.{Step, take, join, Mcasts, Joins, Chan, chan, ChannelExecution}
 use Rattle.channel.specs.Trace.{joins, steps-take, steps-single, steps-deliver, steps}
@@ -105,7 +105,7 @@ module _ {M : Type 0} (N : Network M) where
 
       go : (o : Option (Tagged M)) → Suf E (steps-single (N .mail) w o E)
       go none = stop
-      go (some x) = at x (leb (x .mark) (w .taken (N .mail .dest (x .msg))))
+      go (some x) = at x (ripe (N .mail) w x)
   steps-suf w (deliver i) E = go (w .inbox i)
     where
       go : (l : List M) → Suf E (steps-deliver l i E)

@@ -17,8 +17,8 @@ use Rattle.channel.specs.Layout.{takenWord, countWord, heldWord, flightB
 use Rattle.channel.specs.Inbox.{pushed}
 use Rattle.channel.specs.TakeSingle.{noFlight, flightTo, heldMore, landed}
 use Rattle.channel.specs.Shows.{letterMail, taggedAt, heldOf, flightOf, Shows}
-use Rattle.channel.proofs.View.{pushed-long, pushed-word, push-appends, push-held}
-use Rattle.channel.proofs.Facts.{Sized, cards-most, tasks-most, cards-words, tasks-words}
+use Rattle.channel.proofs.InboxRing.{pushed-long, pushed-word, push-appends, push-held}
+use Rattle.channel.proofs.SizedFacts.{Sized, cards-most, tasks-most, cards-words, tasks-words}
 use Rattle.channel.proofs.HeldMore.{more-word, more-long, more-held, more-inbox}
 use Rattle.channel.proofs.Frame.{Outside, card-shows, inbox-words, held-words, sent-words, flight-words}
 

@@ -1,9 +1,5 @@
-pub mod View
-pub mod Tags
 pub mod Release
-pub mod Facts
 pub mod Frame
-pub mod Answering
 pub mod Receiving
 pub mod Taking
 pub mod TakeBroadcastLaw
@@ -13,10 +9,7 @@ pub mod TakeSingleLaw
 pub mod Sending
 pub mod DispatchLaw
 pub mod Destinations
-pub mod Fitting
-pub mod FitMoves
 pub mod FitRelease
-pub mod FitSized
 pub mod SizedReceive
 pub mod SizedTakeBroadcast
 pub mod SizedTakeSingle
@@ -66,10 +59,21 @@ pub mod CallLaws
 pub mod RunLaw
 pub mod CallsComplete
 -- What the refusals say
+pub mod Places
 pub mod RefusalsMean
 -- Blocks of words, and the queues that they show
 -- What each operation does to the memory is what it does to the idealised state
 -- Each operation keeps the memory well sized
+pub mod InboxRing
+pub mod ReleasedLists
+pub mod SizedFacts
+-- What each operation does to the memory is what it does to the idealised state
+pub mod AnswerNumbers
+-- Each operation keeps the memory well sized
+pub mod WellSizedParts
+pub mod FitQueues
+pub mod FitKept
 -- Any list of calls on a memory
 pub mod ChannelLaw
 pub mod Offered
+pub mod MemoryExamples

@@ -1,6 +1,6 @@
 -- Nothing is lost: a broadcast that was multicast stands among the broadcasts made, and another message is in flight, held at its
 -- destination, or has joined the inbox there.
-use lib.Dec.{eqb, leb}
+use lib.Dec.{eqb}
 use borrow.Author.Tests.{eqb-true}
 use mathlib.Core.Path.{_≡_, refl, sym, ap, _∙_, subst}
 use mathlib.Core.Bool.{Bool, true, false, cond, true≢false}
@@ -13,7 +13,7 @@ use Rattle.lists.specs.Tests.{eqb-of, clash}
 use Rattle.lists.specs.Histories.{Any, Suf, stop, back, suf-trans, any-map, here, there, In, any-nil, any-left, any-right, suf-any}
 use Rattle.lists.specs.Queues.{push, push-old, push-new}
 use Rattle.channel.specs.Mail.{Mail}
-use Rattle.channel.specs.State.{Tagged, ChannelState, initialChannel, nth, released, kept, ChannelAction, dispatch, takeBroadcast, takeSingle, deliver, dispatching, taking, landing, arriving, channelStep}
+use Rattle.channel.specs.State.{Tagged, ChannelState, initialChannel, nth, released, kept, ChannelAction, dispatch, takeBroadcast, takeSingle, deliver, dispatching, taking, landing, arriving, channelStep, ripe, tagging}
 use Rattle.channel.specs.Refusals.{broadcastRefusal, flightRefusal, channelRefusal}
 use Rattle.channel.specs.Network.{Network}
 use Rattle.channel.specs.Automaton.{Step, mcast, take, join, receive, Mcasts, Joins}
@@ -57,7 +57,7 @@ module _ {M : Type 0} (N : Network M) where
     dispatch-safe i n false u free = record { stands = λ m e h. a m e h; comes = λ m e h. b m e h }
       where
         entry : Tagged M
-        entry = record { msg = n; mark = w .taken i }
+        entry = tagging w i n
 
         a : (m : M) → N .mail .multi m ≡ true → Any (Mcasts m) (mcast n ∷ E) → In m (w .sent)
         a m e (here p) = absurd (clash e (ap (N .mail .multi) (sym p) ∙ u))
@@ -65,17 +65,17 @@ module _ {M : Type 0} (N : Network M) where
 
         old : (m : M) (t : Bool) → eqb (N .mail .task m) (N .mail .task n) ≡ t
             → OnWay m (w .flight (N .mail .task m)) (w .held (N .mail .dest m)) E
-            → OnWay m (cond t (some (record { msg = n; mark = w .taken i })) (w .flight (N .mail .task m))) (w .held (N .mail .dest m)) (mcast n ∷ E)
+            → OnWay m (cond t (some (tagging w i n)) (w .flight (N .mail .task m))) (w .held (N .mail .dest m)) (mcast n ∷ E)
         old m true e (flying x q r) = absurd (Option·none-ne-some x (sym (free refl) ∙ ap (w .flight) (sym (eqb-true _ _ e)) ∙ q))
         old m false e (flying x q r) = flying x q r
         old m t e (held h) = held h
         old m t e (joined j) = joined (there j)
 
         b : (m : M) → N .mail .multi m ≡ false → Any (Mcasts m) (mcast n ∷ E)
-            → OnWay m (cond (eqb (N .mail .task m) (N .mail .task n)) (some (record { msg = n; mark = w .taken i })) (w .flight (N .mail .task m)))
+            → OnWay m (cond (eqb (N .mail .task m) (N .mail .task n)) (some (tagging w i n)) (w .flight (N .mail .task m)))
             (w .held (N .mail .dest m)) (mcast n ∷ E)
         b m e (here p) =
-            flying (record { msg = n; mark = w .taken i }) (ap (λ t. cond t (some (record { msg = n; mark = w .taken i }))
+            flying (tagging w i n) (ap (λ t. cond t (some (tagging w i n))
             (w .flight (N .mail .task m))) (eqb-of (ap (N .mail .task) (sym p)))) p
         b m e (there h) = old m (eqb (N .mail .task m) (N .mail .task n)) refl (s .comes m e h)
 
@@ -140,7 +140,7 @@ module _ {M : Type 0} (N : Network M) where
 
     single-safe : (c : ℕ) (o : Option (Tagged M)) → w .flight c ≡ o → Safe (arriving (N .mail) w c o) (steps-single (N .mail) w o E)
     single-safe c none f = s
-    single-safe c (some x) f = land-safe c x f (leb (x .mark) (w .taken (N .mail .dest (x .msg))))
+    single-safe c (some x) f = land-safe c x f (ripe (N .mail) w x)
 
     -- step 9
     deliver-safe : (i : ℕ) (l : List M) → Safe (channelStep (N .mail) w (deliver i)) (steps-deliver l i E)

@@ -23,10 +23,10 @@ use Rattle.channel.specs.Inbox.{receiveAnswer}
 use Rattle.channel.specs.Sized.{inboxFits, blockFits, wellSized}
 use Rattle.channel.specs.Shows.{inboxOf, heldOf, flightOf, Shows}
 use Rattle.channel.specs.MemoryCalls.{SameSizes, memoryAfter, handedUp}
-use Rattle.channel.proofs.Facts.{registers-words}
-use Rattle.channel.proofs.Fitting.{Fit, fit-of}
-use Rattle.channel.proofs.FitSized.{sized-of}
-use Rattle.channel.proofs.FitMoves.{block-letter}
+use Rattle.channel.proofs.SizedFacts.{registers-words}
+use Rattle.channel.proofs.WellSizedParts.{Fit, fit-of}
+use Rattle.channel.proofs.FitKept.{sized-of}
+use Rattle.channel.proofs.FitQueues.{block-letter}
 use Rattle.channel.proofs.Receiving.{receive-answer}
 use Rattle.channel.proofs.ChannelLaw.{channel-follows}
 

@@ -1,5 +1,5 @@
 -- Nothing is held longer than its tag asks: what a card holds has a tag above the number of broadcasts that the card has taken.
-use lib.Dec.{eqb, leb}
+use lib.Dec.{eqb}
 use borrow.Author.Tests.{eqb-true, leb-false}
 use mathlib.Core.Path.{_≡_, refl, ap}
 use mathlib.Core.Logic.{_⊎_, inl, inr}
@@ -11,7 +11,7 @@ use native.Mathlib.Omega.{arith}
 use Rattle.lists.specs.Histories.{Any, any-nil}
 use Rattle.lists.specs.Queues.{push-any}
 use Rattle.channel.specs.Mail.{Mail}
-use Rattle.channel.specs.State.{Tagged, ChannelState, nth, kept, ChannelAction, dispatch, takeBroadcast, takeSingle, deliver, dispatching, taking, landing, arriving, channelStep}
+use Rattle.channel.specs.State.{Tagged, ChannelState, nth, kept, ChannelAction, dispatch, takeBroadcast, takeSingle, deliver, dispatching, taking, landing, arriving, channelStep, ripe}
 use Rattle.channel.specs.Calls.{Setup, done, calls}
 use Rattle.channel.proofs.Held.{Holds, kept-in}
 
@@ -38,7 +38,7 @@ module _ {M : Type 0} (mail : Mail M) where
           omega (arith, n)
       go false e h = p j m t h
 
-  landing-prompt : (w : ChannelState M) (c : ℕ) (x : Tagged M) (b : Bool) → leb (x .mark) (w .taken (mail .dest (x .msg))) ≡ b → Prompt w
+  landing-prompt : (w : ChannelState M) (c : ℕ) (x : Tagged M) (b : Bool) → ripe mail w x ≡ b → Prompt w
       → Prompt (landing mail b w c x)
   landing-prompt w c x true e p i m t h = p i m t h
   landing-prompt w c x false e p i m t h = go (push-any (eqb i (mail .dest (x .msg))) x (w .held i) h)
@@ -53,7 +53,7 @@ module _ {M : Type 0} (mail : Mail M) where
 
   arriving-prompt : (w : ChannelState M) (c : ℕ) (o : Option (Tagged M)) → Prompt w → Prompt (arriving mail w c o)
   arriving-prompt w c none p = p
-  arriving-prompt w c (some x) p = landing-prompt w c x (leb (x .mark) (w .taken (mail .dest (x .msg)))) refl p
+  arriving-prompt w c (some x) p = landing-prompt w c x (ripe mail w x) refl p
 
   pub step-prompt : (w : ChannelState M) (x : ChannelAction M) → Prompt w → Prompt (channelStep mail w x)
   step-prompt w (dispatch i m) p = dispatching-prompt (mail .multi m) w i m p

@@ -20,8 +20,8 @@ use Rattle.channel.specs.Inbox.{popped, gotOf, receiveAnswer, receiveMem
 use Rattle.channel.specs.MemoryCalls.{handedUp}
 use Rattle.names.specs.declared.Card.{Card}
 use Rattle.channel.specs.Shows.{letterMail, inboxOf, heldOf, Shows}
-use Rattle.channel.proofs.View.{held-cong, popped-word, popped-long, pop-drops}
-use Rattle.channel.proofs.Facts.{Sized, cards-most}
+use Rattle.channel.proofs.InboxRing.{held-cong, popped-word, popped-long, pop-drops}
+use Rattle.channel.proofs.SizedFacts.{Sized, cards-most}
 use Rattle.channel.proofs.Frame.{Outside, card-shows}
 
 inbox-none : (ws : List ℕ) (i : ℕ) → countOf ws i ≡ 0 → inboxOf ws i ≡ []

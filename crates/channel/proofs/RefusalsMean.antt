@@ -4,7 +4,7 @@ use mathlib.Core.Logic.{_≢_}
 use mathlib.Core.Bool.{Bool, true, false, cond, _&&_}
 use mathlib.Core.List.{List, [], _∷_, _++_}
 use mathlib.Core.Option.{Option, none, some}
-use Prim.Native.Nat.{ℕ, zero, suc, _+_, _<_, _≤_}
+use Prim.Native.Nat.{ℕ, suc, _+_, _<_, _≤_}
 use native.Mathlib.Omega.{arith}
 use borrow.Author.Tests.{leb-true, leb-false, le-leb, lt-leb}
 use lib.Dec.{leb, ltb}
@@ -17,20 +17,11 @@ use Rattle.channel.specs.Mail.{Mail}
 use Rattle.channel.specs.State.{Tagged, ChannelState, nth, released}
 use Rattle.channel.specs.Refusals.{otherwise, broadcastRefusal, flightRefusal, takeRefusal, singleRefusal, receiveRefusal, channelRefusal}
 use Rattle.channel.specs.RefusalMeanings.{RefusalMeanings}
+use Rattle.channel.proofs.Places.{nth-none, nth-past}
 
 other-six : (b : Bool) (n : ℕ) → n ≢ 0 → n ≢ 6 → otherwise 6 b ≢ n
 other-six true n p q e = p (sym e)
 other-six false n p q e = q (sym e)
-
-nth-none : {M : Type 0} (s : List M) (k : ℕ) → nth s k ≡ none → length s ≤ k
-nth-none [] k e = omega arith
-nth-none (a ∷ s) zero e = let z : _≡_ {A = ℕ} 0 1 = cc in absurd (omega arith)
-nth-none (a ∷ s) (suc k) e = let h = nth-none s k e in omega arith
-
-nth-out : {M : Type 0} (s : List M) (k : ℕ) → length s ≤ k → nth s k ≡ none
-nth-out [] k h = refl
-nth-out (a ∷ s) zero h = absurd (omega arith)
-nth-out (a ∷ s) (suc k) h = nth-out s k (omega arith)
 
 module _ {M : Type 0} (mail : Mail M) (cards : ℕ) (w : ChannelState M) where
   -- whether what joins the inbox has room there
@@ -57,7 +48,8 @@ module _ {M : Type 0} (mail : Mail M) (cards : ℕ) (w : ChannelState M) where
 
   single-32 : (o : Option (Tagged M)) → singleRefusal mail cards w o ≡ 32 → o ≡ none
   single-32 none e = refl
-  single-32 (some x) e = absurd (go (leb (x .mark) (w .taken (mail .dest (x .msg)))) (ltb (length (w .inbox (mail .dest (x .msg)))) 48) (ltb (length (w .held (mail .dest (x .msg)))) 16) e)
+  single-32 (some x) e =
+      absurd (go (leb (x .mark) (w .taken (mail .dest (x .msg)))) (ltb (length (w .inbox (mail .dest (x .msg)))) 48) (ltb (length (w .held (mail .dest (x .msg)))) 16) e)
     where
       go : (b c d : Bool) → cond b (otherwise 6 c) (otherwise 6 d) ≢ 32
       go true c d q = other-six c 32 (omega arith) (omega arith) q
@@ -80,16 +72,18 @@ module _ {M : Type 0} (mail : Mail M) (cards : ℕ) (w : ChannelState M) where
   dispatch-34 false m e = absurd (flight-34 (w .flight (mail .task m)) e)
   dispatch-34 true m e = let x = go (each cards near) refl e in (refl, x .0, x .1, x .2)
     where
-      go : (b : Bool) → each cards near ≡ b → cond b (otherwise 6 (ltb (length (w .sent)) 65535)) 34 ≡ 34 → (j : ℕ) × (j < cards) × (w .taken j + 64 < suc (length (w .sent)))
+      go : (b : Bool) → each cards near ≡ b → cond b (otherwise 6 (ltb (length (w .sent)) 65535)) 34 ≡ 34
+          → (j : ℕ) × (j < cards) × (w .taken j + 64 < suc (length (w .sent)))
       go true h q = absurd (other-six (ltb (length (w .sent)) 65535) 34 (omega arith) (omega arith) q)
       go false h q = let f = each-failing cards near h in (f .0, f .1, leb-false _ _ (f .2))
 
   pub refusals-mean : RefusalMeanings mail cards w
   unfolding channelRefusal near
   refusals-mean = record {
-    none-to-take = λ i. ((λ e. nth-none (w .sent) (w .taken i) (take-31 i _ e)), (λ h. rw (nth-out (w .sent) (w .taken i) h)));
+    none-to-take = λ i. ((λ e. nth-none (w .sent) (w .taken i) (take-31 i _ e)), (λ h. rw (nth-past (w .sent) (w .taken i) h)));
     none-in-flight = λ t. ((λ e. single-32 (w .flight t) e), (λ h. rw h));
     inbox-empty = λ i. ((λ e. receive-33 (w .inbox i) e), (λ h. rw h));
-    far-behind = λ i m. ((λ e. dispatch-34 (mail .multi m) m e), (λ h. rw (h .0, each-fails cards near (h .1) (h .2) (lt-leb (suc (length (w .sent))) (w .taken (h .1) + 64) (h .3)))));
+    far-behind =
+        λ i m. ((λ e. dispatch-34 (mail .multi m) m e), (λ h. rw (h .0, each-fails cards near (h .1) (h .2) (lt-leb (suc (length (w .sent))) (w .taken (h .1) + 64) (h .3)))));
     crowded = λ i. ((λ e. take-35 i (nth (w .sent) (w .taken i)) e), (λ h. rw (h .1, h .2, le-leb 32 (length (filter (mail .multi) (w .inbox i))) (h .3))));
   }

@@ -19,8 +19,8 @@ use Rattle.channel.specs.Inbox.{pushed}
 use Rattle.channel.specs.TakeBroadcast.{Sweep, sweeps, swept, sweptWords, sweptKept, releasedWords}
 use Rattle.channel.specs.Shows.{taggedAt, inboxOf, heldOf}
 use Rattle.names.proofs.Blocks.{word-other, letter-same, mark-same, length-stored}
-use Rattle.channel.proofs.Tags.{released-snoc, kept-snoc}
-use Rattle.channel.proofs.View.{tagged-cong, held-cong, ring-cong, pushed-long, pushed-word, pushed-count, push-appends, push-held}
+use Rattle.channel.proofs.ReleasedLists.{released-snoc, kept-snoc}
+use Rattle.channel.proofs.InboxRing.{tagged-cong, held-cong, ring-cong, pushed-long, pushed-word, pushed-count, push-appends, push-held}
 
 -- the first n messages held for card i
 abbrev pub heldFirst : List ℕ → ℕ → ℕ → List (Tagged Letter)
@@ -104,7 +104,8 @@ module _ (ws : List ℕ) (i n : ℕ) (card : i < 8) (k : ℕ) (s : Sweep) (h : k
       long = pushed-long (s .words) i (y .msg) (v .long) card space;
       few = omega (arith, v .few);
       stay = push-held (s .words) i (y .msg) (v .long) card space (s .kept) (omega (arith, v .few)) ∙ v .stay ∙ sym no-more;
-      rest = λ m p q. tagged-cong (pushed (s .words) i (y .msg)) (s .words) (heldBlock i m) (λ a g. word _ (omega arith) (λ b r. omega arith)) ∙ v .rest m (omega arith) q;
+      rest = λ m p q. tagged-cong (pushed (s .words) i (y .msg)) (s .words) (heldBlock i m) (λ a g. word _ (omega arith) (λ b r. omega arith))
+          ∙ v .rest m (omega arith) q;
       inbox =
           push-appends (s .words) i (y .msg) (v .long) card space ∙ ap₂ (λ a b. a ++ (b ∷ [])) (v .inbox) (ap (λ (z : Tagged Letter). z .msg) at-k)
           ∙ append-assoc (inboxOf ws i) _ _ ∙ ap (inboxOf ws i ++_) (sym more);
@@ -140,7 +141,8 @@ module _ (ws : List ℕ) (i n : ℕ) (card : i < 8) (k : ℕ) (s : Sweep) (h : k
     other = moved-word (s .words) i (s .kept) (y .msg) (y .mark) card place
 
     put : taggedAt us (heldBlock i (s .kept)) ≡ y
-    put = rw (letter-same (s .words) (heldBlock i (s .kept)) (y .msg) (y .mark) (omega (arith, v .long)), mark-same (s .words) (heldBlock i (s .kept)) (y .msg) (y .mark) (omega (arith, v .long)))
+    put =
+        rw (letter-same (s .words) (heldBlock i (s .kept)) (y .msg) (y .mark) (omega (arith, v .long)), mark-same (s .words) (heldBlock i (s .kept)) (y .msg) (y .mark) (omega (arith, v .long)))
 
     down : heldFirst us i (s .kept + 1) ≡ kept n (heldFirst ws i (suc k))
     unfolding listing
@@ -217,7 +219,8 @@ module _ (ws : List ℕ) (i n : ℕ) (card : i < 8) (long : length ws ≡ 4808) 
   pub release-held : heldOf (releasedWords ws i n) i ≡ kept n (heldOf ws i)
   unfolding heldOf
   release-held =
-      let c : heldCountOf (releasedWords ws i n) i ≡ end .kept = rw released-is (getD-set-same (end .words) (heldWord i) (end .kept) 0 (omega (arith, swept-all .long))) in
+      let c : heldCountOf (releasedWords ws i n) i
+      ≡ end .kept = rw released-is (getD-set-same (end .words) (heldWord i) (end .kept) 0 (omega (arith, swept-all .long))) in
       rw c
       (held-cong (releasedWords ws i n) (end .words) i (end .kept) (λ a p q. release-word a (omega arith)) ∙ swept-all .stay)
 

@@ -11,7 +11,7 @@ use Rattle.lists.specs.Filters.{filter}
 use Rattle.lists.specs.Queues.{push}
 use Rattle.lists.specs.Maps.{map-push, length-filter-map}
 use Rattle.channel.specs.Mail.{Mail}
-use Rattle.channel.specs.State.{Tagged, ChannelState, nth, released, ChannelAction, dispatch, takeBroadcast, takeSingle, deliver}
+use Rattle.channel.specs.State.{Tagged, ChannelState, nth, released, ChannelAction, dispatch, takeBroadcast, takeSingle, deliver, ripe}
 use Rattle.channel.specs.Refusals.{otherwise, broadcastRefusal, flightRefusal, dispatchRefusal, takeRefusal, singleRefusal, receiveRefusal, channelRefusal}
 use Rattle.channel.specs.Renaming.{tag-map, channel-map, action-map, Alike, SentAlike}
 use Rattle.channel.proofs.RenamedLists.{nth-map, released-map}
@@ -47,7 +47,7 @@ module _ {M N : Type 0} (h : M → N) (a : Mail M) (b : Mail N) (r : Alike h a b
   singleRefusal-map w (some x) =
       ap (λ i. cond (leb (x .mark) (w .taken i)) (otherwise 6 (ltb (length (map h (w .inbox i))) 48))
       (otherwise 6 (ltb (length (map (tag-map h) (w .held i))) 16))) (r .dest= (x .msg))
-      ∙ ap₂ (λ m n. cond (leb (x .mark) (w .taken (a .dest (x .msg)))) (otherwise 6 (ltb m 48)) (otherwise 6 (ltb n 16)))
+      ∙ ap₂ (λ m n. cond (ripe a w x) (otherwise 6 (ltb m 48)) (otherwise 6 (ltb n 16)))
       (length-map (w .inbox (a .dest (x .msg))) h) (length-map (w .held (a .dest (x .msg))) (tag-map h))
 
   receiveRefusal-map : (l : List M) → receiveRefusal b cards (map h l) ≡ receiveRefusal a cards l

@@ -8,7 +8,7 @@ use Prim.Native.Nat.{ℕ, suc}
 use Rattle.lists.specs.Queues.{push}
 use Rattle.lists.specs.Maps.{map-push, map-pop}
 use Rattle.channel.specs.Mail.{Mail}
-use Rattle.channel.specs.State.{Tagged, ChannelState, nth, released, kept, ChannelAction, dispatch, takeBroadcast, takeSingle, deliver, dispatching, taking, landing, arriving, delivering, channelStep}
+use Rattle.channel.specs.State.{Tagged, ChannelState, nth, released, kept, ChannelAction, dispatch, takeBroadcast, takeSingle, deliver, dispatching, taking, landing, arriving, delivering, channelStep, ripe, tagging}
 use Rattle.channel.specs.Renaming.{tag-map, channel-map, action-map, Alike, SentAlike}
 use Rattle.channel.proofs.RenamedLists.{nth-map, released-map, kept-map}
 
@@ -25,14 +25,14 @@ module _ {M N : Type 0} (h : M → N) (a : Mail M) (b : Mail N) (r : Alike h a b
   dispatching-map false w i m = λ z. record {
     sent = map h (w .sent);
     taken = w .taken;
-    flight = λ c. (ap (λ k. cond (eqb c k) (some (record { msg = h m; mark = w .taken i })) (Option·map (tag-map h) (w .flight c))) (r .task= m)
+    flight = λ c. (ap (λ k. cond (eqb c k) (some (tagging (channel-map h w) i (h m))) (Option·map (tag-map h) (w .flight c))) (r .task= m)
         ∙ fly c (eqb c (a .task m))) z;
     held = λ j. map (tag-map h) (w .held j);
     inbox = λ j. map h (w .inbox j);
   }
     where
-      fly : (c : ℕ) (t : Bool) → cond t (some (record { msg = h m; mark = w .taken i })) (Option·map (tag-map h) (w .flight c))
-          ≡ Option·map (tag-map h) (cond t (some (record { msg = m; mark = w .taken i })) (w .flight c))
+      fly : (c : ℕ) (t : Bool) → cond t (some (tagging (channel-map h w) i (h m))) (Option·map (tag-map h) (w .flight c))
+          ≡ Option·map (tag-map h) (cond t (some (tagging w i m)) (w .flight c))
       fly c true = refl
       fly c false = refl
 
@@ -95,7 +95,7 @@ module _ {M N : Type 0} (h : M → N) (a : Mail M) (b : Mail N) (r : Alike h a b
   arriving-map w c none = refl
   arriving-map w c (some x) =
       ap (λ i. landing b (leb (x .mark) (w .taken i)) (channel-map h w) c (tag-map h x)) (r .dest= (x .msg))
-      ∙ landing-map (leb (x .mark) (w .taken (a .dest (x .msg)))) w c x
+      ∙ landing-map (ripe a w x) w c x
 
   delivering-map : (w : ChannelState M) (i : ℕ) → delivering b (channel-map h w) i ≡ channel-map h (delivering a w i)
   delivering-map w i = λ z. record {

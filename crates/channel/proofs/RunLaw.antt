@@ -2,7 +2,7 @@
 use Prim.Native.Nat.{ℕ, _<_}
 use mathlib.Core.Path.{_≡_, refl, sym, ap, ap₂, _∙_}
 use mathlib.Core.Bool.{Bool, true, false, cond}
-use mathlib.Core.List.{List, [], _∷_, map}
+use mathlib.Core.List.{List, [], _∷_}
 use lib.Dec.{eqb, ltb}
 use lib.ListN.{length}
 use Rattle.names.specs.declared.Letter.{Letter}
@@ -11,27 +11,27 @@ use Rattle.channel.specs.State.{ChannelState, ChannelAction, dispatch, t
 use Rattle.channel.specs.Sized.{wellSized}
 use Rattle.channel.specs.Shows.{letterMail, Shows}
 use Rattle.channel.specs.Calls.{done, calls}
-use Rattle.channel.specs.MemoryCalls.{Call, callNumber, callMemory, memoryAfter, answersAfter, actionOf, handedUp, absent, unfit, callRefusal, letters, refusalsAfter, SameSizes, RunFollows}
+use Rattle.channel.specs.MemoryCalls.{Call, callNumber, callMemory, memoryAfter, answersAfter, actionOf, handedUp, absent, unfit, callRefusal, letters, refusalsAfter, SameSizes, RunFollows, actionsOf, stateAfter}
 use Rattle.channel.proofs.Receiving.{receive-answer}
-use Rattle.channel.proofs.Fitting.{fit-of, same-cards, same-tasks, fits-same}
+use Rattle.channel.proofs.WellSizedParts.{fit-of, same-cards, same-tasks, fits-same}
 use Rattle.channel.proofs.FitRelease.{sizes-trans}
-use Rattle.channel.proofs.FitSized.{sized-of}
+use Rattle.channel.proofs.FitKept.{sized-of}
 use Rattle.channel.proofs.CallLaws.{refused-is, call-follows}
 use Rattle.channel.proofs.CallsKeepPromise.{calls-promise}
 use Rattle.channel.proofs.CallsEvents.{calls-events}
 use Rattle.channel.proofs.CallsComplete.{calls-complete}
 use Rattle.names.proofs.CardSets.{single-of}
 use Rattle.channel.proofs.Destinations.{sole-present, member-present}
-use Rattle.channel.proofs.FitMoves.{fits-to, fits-small}
+use Rattle.channel.proofs.FitQueues.{fits-to, fits-small}
 use Rattle.channel.proofs.SizedDispatch.{fits-some}
 use Rattle.channel.specs.AtRest.{GoesToCards}
 use Rattle.names.specs.CardSet.{several, soleOf, memberOf}
 use Rattle.channel.specs.Letters.{fits}
 use Rattle.channel.specs.Refusals.{otherwise}
 use Rattle.lists.specs.Tests.{clash, and-snd}
-use borrow.Author.Tests.{eqb-true}
+use borrow.Author.Tests.{eqb-true, ltb-true}
 use native.Mathlib.Omega.{arith}
-use Rattle.channel.specs.Layout.{cardsOf}
+use Rattle.channel.specs.Layout.{cardsOf, takenOf, takenBy}
 
 -- refusals look at nothing of a memory but its sizes
 refusal-sizes : (us ms : List ℕ) → SameSizes us ms → (w : ChannelState Letter) (x : ChannelAction Letter) → callRefusal us w x ≡ callRefusal ms w x
@@ -71,7 +71,7 @@ record Upto (ms us : List ℕ) (w : ChannelState Letter) : Type 0 where
   pub shows : Shows us w
 
 module _ (ms : List ℕ) (long : length ms ≡ 4808) (ok : wellSized ms ≡ true) (v : Shows ms (calls (letters ms) [])) where
-  upto : (cs : List Call) → Upto ms (memoryAfter ms cs) (calls (letters ms) (map actionOf cs))
+  upto : (cs : List Call) → Upto ms (memoryAfter ms cs) (stateAfter ms cs)
   unfolding memoryAfter
   upto [] = record { sized = ok; long = long; sizes = record { cards = refl; tasks = refl; registers = refl }; shows = v }
   upto (c ∷ cs) = onward (upto cs)
@@ -80,7 +80,7 @@ module _ (ms : List ℕ) (long : length ms ≡ 4808) (ok : wellSized ms ≡ true
       us = memoryAfter ms cs
 
       w : ChannelState Letter
-      w = calls (letters ms) (map actionOf cs)
+      w = stateAfter ms cs
 
       onward : Upto ms us w → Upto ms (callMemory us c) (cond (done (letters ms) w (actionOf c)) (channelStep letterMail w (actionOf c)) w)
       onward u =
@@ -92,7 +92,7 @@ module _ (ms : List ℕ) (long : length ms ≡ 4808) (ok : wellSized ms ≡ true
             shows = rw (← done-sizes us ms (u .sizes) w (actionOf c)) (k .shows);
           }
 
-  numbers : (cs : List Call) → answersAfter ms cs ≡ refusalsAfter ms (map actionOf cs)
+  numbers : (cs : List Call) → answersAfter ms cs ≡ refusalsAfter ms (actionsOf cs)
   unfolding answersAfter refusalsAfter
   numbers [] = refl
   numbers (c ∷ cs) = ap₂ (λ (a : ℕ) (b : List ℕ). a ∷ b) (one (upto cs)) (numbers cs)
@@ -101,12 +101,13 @@ module _ (ms : List ℕ) (long : length ms ≡ 4808) (ok : wellSized ms ≡ true
       us = memoryAfter ms cs
 
       w : ChannelState Letter
-      w = calls (letters ms) (map actionOf cs)
+      w = stateAfter ms cs
 
       one : Upto ms us w → callNumber us c ≡ callRefusal ms w (actionOf c)
       one u = call-follows us w (u .long) (u .sized) (u .shows) c .number ∙ refusal-sizes us ms (u .sizes) w (actionOf c)
 
   pub run-follows : (cs : List Call) → RunFollows ms cs
+  unfolding takenBy
   run-follows cs =
       let u = upto cs in
       record {
@@ -116,10 +117,19 @@ module _ (ms : List ℕ) (long : length ms ≡ 4808) (ok : wellSized ms ≡ true
         shows = u .shows;
         answers = numbers cs;
         hands = λ card.
-            receive-answer (memoryAfter ms cs) (calls (letters ms) (map actionOf cs)) (sized-of (memoryAfter ms cs) (u .long) (fit-of (memoryAfter ms cs) (u .sized))) (u .shows) card
-            ∙ ap (λ n. cond (ltb (card .0) n) (handedUp ((calls (letters ms) (map actionOf cs)) .inbox (card .0))) NoSuchCard) (same-cards (memoryAfter ms cs) ms (u .sizes));
-        promise = calls-promise (letters ms) (map actionOf cs);
-        events = calls-events (letters ms) (map actionOf cs);
-        complete = calls-complete (letters ms) (map actionOf cs);
+            receive-answer (memoryAfter ms cs) (stateAfter ms cs) (sized-of (memoryAfter ms cs) (u .long) (fit-of (memoryAfter ms cs) (u .sized))) (u .shows) card
+            ∙ ap (λ n. cond (ltb (card .0) n) (handedUp ((stateAfter ms cs) .inbox (card .0))) NoSuchCard) (same-cards (memoryAfter ms cs) ms (u .sizes));
+        taken = λ i. read u i;
+        made = sym (u .shows .made=);
+        promise = calls-promise (letters ms) (actionsOf cs);
+        events = calls-events (letters ms) (actionsOf cs);
+        complete = calls-complete (letters ms) (actionsOf cs);
         to-cards = to-cards ms;
       }
+    where
+      read : Upto ms (memoryAfter ms cs) (stateAfter ms cs) → (i : ℕ) → takenBy (memoryAfter ms cs) i ≡ cond (ltb i (cardsOf ms)) ((stateAfter ms cs) .taken i) 0
+      read u i = rw (same-cards (memoryAfter ms cs) ms (u .sizes)) (go (ltb i (cardsOf ms)) refl)
+        where
+          go : (b : Bool) → ltb i (cardsOf ms) ≡ b → cond b (takenOf (memoryAfter ms cs) i) 0 ≡ cond b ((stateAfter ms cs) .taken i) 0
+          go true e = sym (u .shows .taken= i (rw (same-cards (memoryAfter ms cs) ms (u .sizes)) (ltb-true i (cardsOf ms) e)))
+          go false e = refl

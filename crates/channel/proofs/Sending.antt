@@ -1,6 +1,6 @@
 -- A message is dispatched (step 6): what the words show afterwards.
-use Prim.Native.Nat.{ℕ, zero, suc, _+_, _*_, _%_, _<_, _≤_}
-use mathlib.Core.Path.{_≡_, refl, sym, ap, _∙_}
+use Prim.Native.Nat.{ℕ, _+_, _*_, _%_, _<_, _≤_}
+use mathlib.Core.Path.{_≡_, sym, ap, _∙_}
 use mathlib.Core.Bool.{true, false, cond}
 use mathlib.Core.Logic.{_≢_}
 use mathlib.Core.List.{List, [], _∷_, _++_}
@@ -21,17 +21,9 @@ use Rattle.names.specs.Letters.{letterAt, kindAt, kindOf, stored}
 use Rattle.channel.specs.TakeSingle.{noFlight}
 use Rattle.channel.specs.Shows.{letterMail, flightOf, Shows}
 use Rattle.names.proofs.Blocks.{word-other, letter-cong, letter-same, mark-same, kind-same, length-stored}
-use Rattle.channel.proofs.Facts.{Sized, cards-most, tasks-most, cards-words, tasks-words}
+use Rattle.channel.proofs.SizedFacts.{Sized, cards-most, tasks-most, cards-words, tasks-words}
 use Rattle.channel.proofs.Frame.{inbox-words, held-words, sent-words, flight-words}
-
-nth-last : {M : Type 0} (s : List M) (a : M) → nth (s ++ (a ∷ [])) (length s) ≡ some a
-nth-last [] a = refl
-nth-last (b ∷ s) a = nth-last s a
-
-nth-old : {M : Type 0} (s : List M) (a : M) (k : ℕ) → k < length s → nth (s ++ (a ∷ [])) k ≡ nth s k
-nth-old [] a k h = absurd (omega arith)
-nth-old (b ∷ s) a zero h = refl
-nth-old (b ∷ s) a (suc k) h = nth-old s a k (omega arith)
+use Rattle.channel.proofs.Places.{nth-last, nth-old}
 
 -- a block written has a message
 pub kind-some : (ws : List ℕ) (b : ℕ) (l : Letter) (tag : ℕ) → b * 8 + 8 ≤ length ws → (1 ≤ kindAt (stored ws b l tag) b) × (kindAt (stored ws b l tag) b ≤ 4)
@@ -46,7 +38,8 @@ kind-some ws b l tag h = go (l .message .body) (kind-same ws b l tag h)
 
 -- ---- one destination: in flight
 
-module _ (ws : List ℕ) (w : ChannelState Letter) (z : Sized ws) (v : Shows ws w) (i : ℕ) (l : Letter) (card : i < cardsOf ws) (task : l .message .task .0 < tasksOf ws) where
+module _ (ws : List ℕ) (w : ChannelState Letter) (z : Sized ws) (v : Shows ws w) (i : ℕ) (l : Letter) (card : i < cardsOf ws)
+    (task : l .message .task .0 < tasksOf ws) where
   abbrev pub flown : List ℕ
   flown = stored ws (flightBlock (l .message .task .0)) l (takenOf ws i)
 

@@ -27,14 +27,14 @@ use Rattle.channel.specs.TakeSingle.{noFlight}
 use Rattle.channel.specs.Dispatch.{nearAt, near, castAnswer, castMemory, flyAnswer, flyMemory, letterOf, dispatchMemory}
 use Rattle.channel.specs.Sized.{flightFits, broadcastFits, headFits}
 use Rattle.names.proofs.Blocks.{word-other, length-stored}
-use Rattle.channel.proofs.Facts.{cards-most, tasks-most}
-use Rattle.channel.proofs.Answering.{picked}
+use Rattle.channel.proofs.SizedFacts.{cards-most, tasks-most}
+use Rattle.channel.proofs.AnswerNumbers.{picked}
 use Rattle.names.proofs.CardSets.{single-of}
 use Rattle.channel.proofs.DispatchLaw.{fits-task}
 use Rattle.channel.specs.MemoryCalls.{SameSizes}
-use Rattle.channel.proofs.Fitting.{CardFit, Fit, same-cards, same-tasks, fits-same, flight-same, broadcast-same, card-same}
-use Rattle.channel.proofs.FitMoves.{fits-small, put-letter, put-fits}
-use Rattle.channel.proofs.FitSized.{Kept, unchanged, head-same}
+use Rattle.channel.proofs.WellSizedParts.{CardFit, Fit, same-cards, same-tasks, fits-same, flight-same, broadcast-same, card-same}
+use Rattle.channel.proofs.FitQueues.{fits-small, put-letter, put-fits}
+use Rattle.channel.proofs.FitKept.{Kept, unchanged, head-same}
 
 or-intro : (a : Bool) {b : Bool} → b ≡ true → (a || b) ≡ true
 or-intro true e = refl
@@ -44,7 +44,8 @@ or-intro false e = e
 pub fits-some : (ws : List ℕ) (l : Letter) → fits ws l ≡ true → 1 ≤ l .to
 unfolding fits addressed
 fits-some ws l f =
-    let u = and-five (ltb (l .message .task .0) (tasksOf ws)) (ltb (l .message .register .0) (registersOf ws)) (known (l .message .body)) (ltb (l .from .0) (cardsOf ws))
+    let u =
+    and-five (ltb (l .message .task .0) (tasksOf ws)) (ltb (l .message .register .0) (registersOf ws)) (known (l .message .body)) (ltb (l .from .0) (cardsOf ws))
     (addressed ws (l .to)) f in
     leb-true 1 (l .to) (and-fst (leb 1 (l .to)) (ltb (l .to) (2 ^ cardsOf ws)) (u .4))
 
@@ -86,7 +87,9 @@ module _ (ws : List ℕ) (long : length ws ≡ 4808) (f : Fit ws) (l : Letter) (
       record {
         fit = record {
           sizes = head-same us ws sizes m ∙ f .sizes;
-          card = λ j c. let q = cards-most us in rw m (card-same us ws sizes (madeOf ws) j (λ a p r. word a (λ k h. omega arith)) (f .card j (rw (← same-cards us ws sizes) c)));
+          card =
+              λ j c. let q =
+              cards-most us in rw m (card-same us ws sizes (madeOf ws) j (λ a p r. word a (λ k h. omega arith)) (f .card j (rw (← same-cards us ws sizes) c)));
           flight = λ d h. slot-fit d (rw (← same-tasks us ws sizes) h);
           recent = λ k p h. rw m (broadcast-same us ws sizes (madeOf ws - k) (λ a u v. word a (λ b r. omega (arith, t16))) ∙ f .recent k (rw (← m) p) h);
         };
@@ -114,7 +117,8 @@ module _ (ws : List ℕ) (long : length ws ≡ 4808) (f : Fit ws) (l : Letter) (
   cword a h e = getD-set-other vs 3 a n 0 h ∙ word-other ws slot l n a e
 
   csizes : SameSizes cs ws
-  csizes = record { cards = cword 0 (omega arith) (λ k h. omega arith); tasks = cword 1 (omega arith) (λ k h. omega arith); registers = cword 2 (omega arith) (λ k h. omega arith) }
+  csizes =
+      record { cards = cword 0 (omega arith) (λ k h. omega arith); tasks = cword 1 (omega arith) (λ k h. omega arith); registers = cword 2 (omega arith) (λ k h. omega arith) }
 
   made : madeOf cs ≡ n
   made = getD-set-same vs 3 n 0 (omega (arith, length-stored ws slot l n))

@@ -10,12 +10,12 @@ use lib.ListN.{length}
 use Rattle.names.specs.declared.Card.{Card}
 use Rattle.channel.specs.Layout.{takenWord, heldWord, cardsOf, takenOf, countOf, heldCountOf}
 use Rattle.channel.specs.Inbox.{popped, receiveMemory}
-use Rattle.channel.proofs.View.{popped-word, popped-long, popped-count, popped-head}
-use Rattle.channel.proofs.Facts.{cards-most}
+use Rattle.channel.proofs.InboxRing.{popped-word, popped-long, popped-count, popped-head}
+use Rattle.channel.proofs.SizedFacts.{cards-most}
 use Rattle.channel.proofs.Receiving.{popped-outside}
-use Rattle.channel.proofs.Fitting.{Fit}
-use Rattle.channel.proofs.FitMoves.{pop-sizes, pop-box, held-same}
-use Rattle.channel.proofs.FitSized.{Kept, unchanged, card-keeps}
+use Rattle.channel.proofs.WellSizedParts.{Fit}
+use Rattle.channel.proofs.FitQueues.{pop-sizes, pop-box, held-same}
+use Rattle.channel.proofs.FitKept.{Kept, unchanged, card-keeps}
 
 module _ (ws : List ℕ) (long : length ws ≡ 4808) (f : Fit ws) (card : Card) where
   abbrev i : ℕ

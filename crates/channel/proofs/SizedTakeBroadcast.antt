@@ -19,16 +19,16 @@ use Rattle.channel.specs.Answers.{isDone}
 use Rattle.channel.specs.TakeBroadcast.{releasedWords, joined, nextLetter, nextThere, takeAnswer, takeMemory}
 use Rattle.channel.specs.Sized.{blockFits, broadcastFits}
 use Rattle.channel.specs.Shows.{inboxOf, heldOf}
-use Rattle.channel.proofs.View.{pushed-word, pushed-count, pushed-head}
+use Rattle.channel.proofs.InboxRing.{pushed-word, pushed-count, pushed-head}
 use Rattle.channel.proofs.Release.{release-low}
-use Rattle.channel.proofs.Facts.{cards-most}
+use Rattle.channel.proofs.SizedFacts.{cards-most}
 use Rattle.channel.proofs.Taking.{numbered, one-word, one-long, one-room, begun-out, begun-in, joined-shows}
 use Rattle.channel.proofs.TakeBroadcastLaw.{inbox-length, push-length, Took, took}
 use Rattle.channel.specs.MemoryCalls.{SameSizes}
-use Rattle.channel.proofs.Fitting.{Fit, fits-same}
-use Rattle.channel.proofs.FitMoves.{block-letter, BoxFit, HeldFit, box-same, push-sizes, push-box, held-same}
+use Rattle.channel.proofs.WellSizedParts.{Fit, fits-same}
+use Rattle.channel.proofs.FitQueues.{block-letter, BoxFit, HeldFit, box-same, push-sizes, push-box, held-same}
 use Rattle.channel.proofs.FitRelease.{sizes-trans, release-few, release-box, release-fit}
-use Rattle.channel.proofs.FitSized.{Kept, unchanged, outside-sizes, sized-of, card-keeps}
+use Rattle.channel.proofs.FitKept.{Kept, unchanged, outside-sizes, sized-of, card-keeps}
 
 -- the next broadcast that a card takes fits
 pub next-fits : (ws : List ℕ) → Fit ws → (i : ℕ) → i < cardsOf ws → takenOf ws i < madeOf ws → fits ws (nextLetter ws i) ≡ true
@@ -76,7 +76,8 @@ module _ (ws : List ℕ) (i n : ℕ) (l : Letter) (card : i < 8) (whole : length
         head = release-low us i n card long g r (headWord i) (omega arith) ∙ head;
       }
 
-  after : (there : Bool) → (there ≡ true → memberOf (l .to) i ≡ true) → countOf ws i + length (released n (heldOf ws i)) + cond there 1 0 ≤ 48 → After (joined ws i n l there)
+  after : (there : Bool) → (there ≡ true → memberOf (l .to) i ≡ true) → countOf ws i + length (released n (heldOf ws i)) + cond there 1 0 ≤ 48
+      → After (joined ws i n l there)
   unfolding joined
   after true d room =
       let r = one-room ws i n l card whole small (omega arith) in
@@ -115,7 +116,8 @@ module _ (ws : List ℕ) (long : length ws ≡ 4808) (f : Fit ws) (card : Card) 
       let t : takenOf us i ≡ takenOf ws i + 1 = j .taken in
       let c : countOf us i ≡ countOf ws i + cond (nextThere ws i) 1 0 + length (released n (heldOf ws i)) =
       sym (inbox-length us i) ∙ ap length (j .inbox) ∙ length-append (push (nextThere ws i) l (inboxOf ws i)) (released n (heldOf ws i))
-      ∙ ap (λ (q : ℕ). q + length (released n (heldOf ws i))) (push-length (nextThere ws i) l (inboxOf ws i) ∙ ap (λ (q : ℕ). q + cond (nextThere ws i) 1 0) (inbox-length ws i)) in
+      ∙ ap (λ (q : ℕ). q + length (released n (heldOf ws i)))
+      (push-length (nextThere ws i) l (inboxOf ws i) ∙ ap (λ (q : ℕ). q + cond (nextThere ws i) 1 0) (inbox-length ws i)) in
       record {
         fit = card-keeps us ws i (k .there) (j .out) f (record {
           behind = rw t (omega arith);

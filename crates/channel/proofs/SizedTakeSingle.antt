@@ -15,17 +15,17 @@ use Rattle.channel.specs.Inbox.{pushed}
 use Rattle.channel.specs.Answers.{isDone}
 use Rattle.channel.specs.TakeSingle.{flightLetter, flightTag, flightTo, joinsAt, heldMore, landed, singleAnswer, singleMemory}
 use Rattle.channel.specs.Sized.{flightFits}
-use Rattle.channel.proofs.View.{pushed-word, pushed-long, pushed-count, pushed-head}
+use Rattle.channel.proofs.InboxRing.{pushed-word, pushed-long, pushed-count, pushed-head}
 use Rattle.channel.proofs.HeldMore.{more-word, more-long, more-count, more-block}
-use Rattle.channel.proofs.Facts.{cards-most, tasks-most}
+use Rattle.channel.proofs.SizedFacts.{cards-most, tasks-most}
 use Rattle.channel.proofs.Frame.{Outside}
 use Rattle.channel.proofs.Landing.{vacated, vacated-word, vacated-slot}
 use Rattle.channel.proofs.TakeSingleLaw.{Landed, landed-knew}
 use Rattle.channel.specs.MemoryCalls.{SameSizes}
-use Rattle.channel.proofs.Fitting.{Fit, same-cards, same-tasks, fits-same, flight-same, broadcast-same, card-same}
-use Rattle.channel.proofs.FitMoves.{push-sizes, push-box, box-same, held-same, held-put}
+use Rattle.channel.proofs.WellSizedParts.{Fit, same-cards, same-tasks, fits-same, flight-same, broadcast-same, card-same}
+use Rattle.channel.proofs.FitQueues.{push-sizes, push-box, box-same, held-same, held-put}
 use Rattle.channel.proofs.FitRelease.{sizes-trans}
-use Rattle.channel.proofs.FitSized.{Kept, unchanged, FlightLetter, flight-letter, head-same, outside-sizes, card-keeps}
+use Rattle.channel.proofs.FitKept.{Kept, unchanged, FlightLetter, flight-letter, head-same, outside-sizes, card-keeps}
 
 -- ---- task t's slot made empty
 
@@ -159,8 +159,11 @@ module _ (ws : List ℕ) (long : length ws ≡ 4808) (f : Fit ws) (task : Task) 
   single-keeps = go (isDone (singleAnswer ws task)) refl
     where
       us : List ℕ
-      us = landed ws (task .0) (flightTo ws (task .0)) (flightLetter ws (task .0)) (flightTag ws (task .0)) (joinsAt ws (flightTo ws (task .0)) (flightTag ws (task .0)))
+      us =
+          landed ws (task .0) (flightTo ws (task .0)) (flightLetter ws (task .0)) (flightTag ws (task .0))
+          (joinsAt ws (flightTo ws (task .0)) (flightTag ws (task .0)))
 
       go : (b : Bool) → isDone (singleAnswer ws task) ≡ b → Kept (cond b us ws) ws
-      go true e = let k = landed-knew ws task e in landed-fit ws long f (task .0) k (joinsAt ws (flightTo ws (task .0)) (flightTag ws (task .0))) (k .room-in) (k .room-held)
+      go true e =
+          let k = landed-knew ws task e in landed-fit ws long f (task .0) k (joinsAt ws (flightTo ws (task .0)) (flightTag ws (task .0))) (k .room-in) (k .room-held)
       go false e = unchanged ws long f

@@ -1,9 +1,8 @@
 -- `take_broadcast` answers and does what the idealised step 7 does.
-use Prim.Native.Nat.{ℕ, zero, suc, _+_, _<_, _≤_, min}
+use Prim.Native.Nat.{ℕ, _+_, _<_, _≤_, min}
 use mathlib.Core.Path.{_≡_, refl, sym, _∙_}
 use mathlib.Core.Bool.{Bool, true, false, cond, _&&_}
 use mathlib.Core.List.{List, [], _∷_, _++_}
-use mathlib.Core.Option.{none}
 use native.Mathlib.Numerals.{add-one}
 use native.Mathlib.Omega.{arith}
 use borrow.Author.Tests.{ltb-true, ltb-false}
@@ -23,10 +22,11 @@ use Rattle.names.specs.Letters.{letterAt}
 use Rattle.channel.specs.Answers.{answerNumber, isDone}
 use Rattle.channel.specs.TakeBroadcast.{readyAt, releasableOf, broadcastAt, broadcastsOf, nextLetter, nextThere, roomAnswer, takeAnswer, takeMemory}
 use Rattle.channel.specs.Shows.{letterMail, taggedAt, inboxOf, heldOf, Shows}
-use Rattle.channel.proofs.Tags.{released-count}
-use Rattle.channel.proofs.Facts.{Sized}
-use Rattle.channel.proofs.Answering.{above, picked, passed, settle}
+use Rattle.channel.proofs.ReleasedLists.{released-count}
+use Rattle.channel.proofs.SizedFacts.{Sized}
+use Rattle.channel.proofs.AnswerNumbers.{above, picked, passed, settle}
 use Rattle.channel.proofs.Taking.{next-is, take-shows}
+use Rattle.channel.proofs.Places.{nth-past}
 
 -- ---- the counts
 
@@ -49,11 +49,6 @@ inbox-length ws i = listing-length _ (countOf ws i)
 pub held-length : (ws : List ℕ) (i : ℕ) → length (heldOf ws i) ≡ heldCountOf ws i
 unfolding heldOf
 held-length ws i = listing-length _ (heldCountOf ws i)
-
-nth-past : {M : Type 0} (s : List M) (k : ℕ) → length s ≤ k → nth s k ≡ none
-nth-past [] k h = refl
-nth-past (a ∷ s) zero h = absurd (omega arith)
-nth-past (a ∷ s) (suc k) h = nth-past s k (omega arith)
 
 pub push-length : (t : Bool) (l : Letter) (s : List Letter) → length (push t l s) ≡ length s + cond t 1 0
 push-length true l s = length-append s (l ∷ [])
@@ -82,7 +77,8 @@ room-number ws i n there l c h =
     go false = let e : countOf ws i + 0 + r ≡ countOf ws i + r = omega arith in rw e (above (countOf ws i + r) 48)
     go true = let e : countOf ws i + 1 + r ≡ countOf ws i + r + 1 = omega arith in rw e (busy (leb 32 b))
       where
-        busy : (u : Bool) → answerNumber (cond u Crowded (cond (ltb 48 (countOf ws i + r + 1)) IllSized Done)) ≡ cond u 35 (otherwise 6 (leb (countOf ws i + r + 1) 48))
+        busy : (u : Bool)
+            → answerNumber (cond u Crowded (cond (ltb 48 (countOf ws i + r + 1)) IllSized Done)) ≡ cond u 35 (otherwise 6 (leb (countOf ws i + r + 1) 48))
         busy true = refl
         busy false = above (countOf ws i + r + 1) 48
 

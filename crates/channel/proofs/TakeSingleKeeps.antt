@@ -1,5 +1,5 @@
 -- Step 8 keeps the agreement.
-use lib.Dec.{eqb, leb}
+use lib.Dec.{eqb}
 use borrow.Author.Tests.{eqb-true, leb-true}
 use mathlib.Core.Path.{_≡_, refl, sym, ap, _∙_, subst}
 use mathlib.Core.Logic.{_⊎_, inl, inr}
@@ -12,7 +12,7 @@ use Rattle.lists.specs.Tests.{eqb-of, clash, cond-cases}
 use Rattle.lists.specs.Histories.{Any, there}
 use Rattle.lists.specs.Queues.{push, push-any}
 use Rattle.channel.specs.Mail.{Mail}
-use Rattle.channel.specs.State.{Tagged, ChannelState, takeSingle, landing, arriving}
+use Rattle.channel.specs.State.{Tagged, ChannelState, takeSingle, landing, arriving, ripe}
 use Rattle.channel.specs.Network.{Network}
 use Rattle.channel.specs.Automaton.{Step, join, Chan, ChannelPrecondition, ChannelExecution}
 use Rattle.channel.specs.Trace.{steps-single}
@@ -24,14 +24,14 @@ module _ {M : Type 0} (N : Network M) where
       → Kept N w (takeSingle c) E
   takeSingle-keeps w E a v c = go (w .flight c) refl
     where
-      landed : (x : Tagged M) → w .flight c ≡ some x → (t : Bool) → leb (x .mark) (w .taken (N .mail .dest (x .msg))) ≡ t
+      landed : (x : Tagged M) → w .flight c ≡ some x → (t : Bool) → ripe (N .mail) w x ≡ t
           → Agrees N (landing (N .mail) t w c x) (cond t (join (x .msg) ∷ E) E) × ChannelExecution N (cond t (join (x .msg) ∷ E) E)
       landed x e t q = into t q
         where
           l : InTransit N E (x .msg) (x .mark)
           l = a .flies c x e .0
 
-          may : leb (x .mark) (w .taken (N .mail .dest (x .msg))) ≡ true → ChannelPrecondition N E (join (x .msg))
+          may : ripe (N .mail) w x ≡ true → ChannelPrecondition N E (join (x .msg))
           may y = (
             l .alone,
             l .mcast-it,
@@ -53,7 +53,7 @@ module _ {M : Type 0} (N : Network M) where
               pick (inl z) = absurd (Option·none-ne-some y (z .1))
               pick (inr z) = z
 
-          into : (t : Bool) → leb (x .mark) (w .taken (N .mail .dest (x .msg))) ≡ t
+          into : (t : Bool) → ripe (N .mail) w x ≡ t
               → Agrees N (landing (N .mail) t w c x) (cond t (join (x .msg) ∷ E) E) × ChannelExecution N (cond t (join (x .msg) ∷ E) E)
           into true q = (
             record {
@@ -103,4 +103,4 @@ module _ {M : Type 0} (N : Network M) where
       go : (o : Option (Tagged M)) → w .flight c ≡ o
           → Agrees N (arriving (N .mail) w c o) (steps-single (N .mail) w o E) × ChannelExecution N (steps-single (N .mail) w o E)
       go none e = (a, v)
-      go (some x) e = landed x e (leb (x .mark) (w .taken (N .mail .dest (x .msg)))) refl
+      go (some x) e = landed x e (ripe (N .mail) w x) refl

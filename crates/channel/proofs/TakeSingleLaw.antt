@@ -17,8 +17,8 @@ use Rattle.names.specs.CardSet.{single}
 use Rattle.channel.specs.Answers.{answerNumber, isDone}
 use Rattle.channel.specs.TakeSingle.{noFlight, flightLetter, flightTag, flightTo, joinsAt, landAnswer, singleAnswer, singleMemory}
 use Rattle.channel.specs.Shows.{letterMail, taggedAt, flightOf, Shows}
-use Rattle.channel.proofs.Facts.{Sized}
-use Rattle.channel.proofs.Answering.{full, picked, passed, settle}
+use Rattle.channel.proofs.SizedFacts.{Sized}
+use Rattle.channel.proofs.AnswerNumbers.{full, picked, passed, settle}
 use Rattle.channel.proofs.Landing.{land-shows}
 use Rattle.channel.proofs.TakeBroadcastLaw.{inbox-length, held-length}
 

@@ -18,9 +18,9 @@ use Rattle.channel.specs.Layout.{takenWord, headWord, countWord, heldWor
 use Rattle.channel.specs.Inbox.{pushed}
 use Rattle.channel.specs.TakeBroadcast.{releasedWords, joined, nextLetter, nextThere}
 use Rattle.channel.specs.Shows.{letterMail, inboxOf, heldOf, Shows}
-use Rattle.channel.proofs.View.{held-cong, ring-cong, pushed-long, pushed-word, pushed-count, push-appends, push-held}
+use Rattle.channel.proofs.InboxRing.{held-cong, ring-cong, pushed-long, pushed-word, pushed-count, push-appends, push-held}
 use Rattle.channel.proofs.Release.{release-long, release-low, release-high, release-held, release-inbox}
-use Rattle.channel.proofs.Facts.{Sized, cards-most}
+use Rattle.channel.proofs.SizedFacts.{Sized, cards-most}
 use Rattle.channel.proofs.Frame.{Outside, card-shows}
 
 module _ (ws : List ℕ) (i n : ℕ) (l : Letter) (card : i < 8) (whole : length ws ≡ 4808) (small : heldCountOf ws i ≤ 16) where
@@ -93,7 +93,8 @@ module _ (ws : List ℕ) (i n : ℕ) (l : Letter) (card : i < 8) (whole : length
     pub one-room : countOf numbered i < 48
     one-room = rw (one-word (countWord i) (omega arith)) room
 
-    two-word : (a : ℕ) → a ≢ countWord i → ((k : ℕ) → k < 8 → a ≢ placeOf numbered i (countOf numbered i) * 8 + k) → getD (pushed numbered i l) a 0 ≡ getD numbered a 0
+    two-word : (a : ℕ) → a ≢ countWord i → ((k : ℕ) → k < 8 → a ≢ placeOf numbered i (countOf numbered i) * 8 + k)
+        → getD (pushed numbered i l) a 0 ≡ getD numbered a 0
     two-word = pushed-word numbered i l one-long card one-room
 
     pub begun-in : Begun true (pushed numbered i l)

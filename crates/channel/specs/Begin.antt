@@ -1,5 +1,5 @@
 -- A channel's memory at the start ("At first .. every queue empty, nothing held or in flight, no broadcast made or taken").
-use Prim.Native.Nat.{ℕ, suc, zero}
+use Prim.Native.Nat.{ℕ}
 use mathlib.Core.Bool.{Bool, cond, _&&_}
 use mathlib.Core.List.{List}
 use lib.Dec.{leb}

@@ -1,10 +1,10 @@
 -- The channel's part of step 6: "More than one destination: it gets the next broadcast number, from 1. One destination: it is tagged with
 -- the number of broadcasts this card has taken and is in flight."
-use Prim.Native.Nat.{ℕ, zero, suc, _+_, _*_, _%_}
-use mathlib.Core.Bool.{Bool, true, false, cond, _&&_}
+use Prim.Native.Nat.{ℕ, _+_}
+use mathlib.Core.Bool.{Bool, cond}
 use mathlib.Core.List.{List}
-use lib.Dec.{eqb, ltb, leb}
-use lib.ListN.{getD, set}
+use lib.Dec.{ltb, leb}
+use lib.ListN.{set}
 use Rattle.lists.specs.Every.{each}
 use Rattle.names.specs.declared.Card.{Card}
 use Rattle.names.specs.declared.Message.{Message}

@@ -1,21 +1,21 @@
 -- What is promised (000 §4), for runs that may be unfinished and in the paper's own wording
 pub mod Promise
 pub mod ContextMulticast
--- The channel's state and operations (01, steps 6 to 9) and their refusals
-pub mod Mail
-pub mod State
-pub mod Refusals
-pub mod RefusalMeanings
-pub mod Renaming
+-- Any list of calls: what is claimed of it
+pub mod Calls
+pub mod AtRest
+pub mod Examples
 -- 000 §6: the automaton, the order T, and the steps that an operation is
 pub mod Network
 pub mod Automaton
 pub mod TotalOrder
 pub mod Trace
--- Any list of calls: what is claimed of it
-pub mod Calls
-pub mod AtRest
-pub mod Examples
+-- The channel's state and operations (01, steps 6 to 9) and their refusals
+pub mod Mail
+pub mod Renaming
+pub mod State
+pub mod Refusals
+pub mod RefusalMeanings
 -- The lent memory: where things lie, and what each function does to the words
 pub mod Layout
 pub mod Letters

@@ -15,7 +15,7 @@ use Rattle.channel.specs.declared.Received.{Received}
 use Rattle.channel.specs.declared.Received.the-variants.{Got, NoSuchCard, Empty}
 use Rattle.channel.specs.State.{ChannelState, initialChannel, ChannelAction, dispatch, takeBroadcast, takeSingle, deliver, channelStep}
 use Rattle.channel.specs.Refusals.{otherwise, channelRefusal}
-use Rattle.channel.specs.Layout.{cardsWord, tasksWord, registersWord, cardsOf, tasksOf, registersOf}
+use Rattle.channel.specs.Layout.{cardsWord, tasksWord, registersWord, cardsOf, tasksOf, registersOf, madeOf, takenBy}
 use Rattle.names.specs.Letters.{letterAt}
 use Rattle.channel.specs.Letters.{fits}
 use Rattle.channel.specs.Answers.{answerNumber, receivedNumber}
@@ -111,6 +111,13 @@ module _ (ms : List ℕ) where
   refusalsAfter [] = []
   refusalsAfter (x ∷ xs) = callRefusal (calls letters xs) x ∷ refusalsAfter xs
 
+-- the same calls on the idealised channel, and the state after them
+abbrev pub actionsOf : List Call → List (ChannelAction Letter)
+actionsOf = map actionOf
+
+abbrev pub stateAfter : List ℕ → List Call → ChannelState Letter
+stateAfter ms cs = calls (letters ms) (actionsOf cs)
+
 -- two memories of the same numbers of cards, tasks and registers
 pub record SameSizes (us ws : List ℕ) : Type 0 where
   pub cards : getD us cardsWord 0 ≡ getD ws cardsWord 0
@@ -135,19 +142,19 @@ pub record BeginFollows (ws : List ℕ) (cards tasks registers : ℕ) : Type 0 w
       × (registersOf (beginMemory ws cards tasks registers) ≡ registers)
   pub shows : sizesFit cards tasks registers ≡ true → Shows (beginMemory ws cards tasks registers) initialChannel
 
--- Any list of calls, refused ones included, from a memory ms that is just begun. `hands`: what a receive would hand up now is the message of
--- the inbox's head. `promise`, `events`, `complete`: what 000 §4 states of a context multicast channel holds of the calls' multicasts and
--- receives, and if the channel is at rest the run is complete in the paper's sense.
+-- Any list of calls, refused ones included, from a memory ms that is just begun. `hands`, `taken`, `made`: what may be read of the memory now,
+-- a receive's message among it, is what the idealised state has. `promise`, `events`, `complete`: what 000 §4 states of a context multicast
+-- channel holds of the calls' multicasts and receives, and if the channel is at rest the run is complete in the paper's sense.
 pub record RunFollows (ms : List ℕ) (cs : List Call) : Type 0 where
   pub sized : wellSized (memoryAfter ms cs) ≡ true
   pub long : length (memoryAfter ms cs) ≡ 4808
   pub sizes : SameSizes (memoryAfter ms cs) ms
-  pub shows : Shows (memoryAfter ms cs) (calls (letters ms) (map actionOf cs))
-  pub answers : answersAfter ms cs ≡ refusalsAfter ms (map actionOf cs)
-  pub hands : (card : Card)
-      → receiveAnswer (memoryAfter ms cs) card
-      ≡ cond (ltb (card .0) (cardsOf ms)) (handedUp ((calls (letters ms) (map actionOf cs)) .inbox (card .0))) NoSuchCard
-  pub promise : CallsPromise (letters ms) (map actionOf cs)
-  pub events : CallsEvents (letters ms) (map actionOf cs)
-  pub complete : CallsComplete (letters ms) (map actionOf cs)
+  pub shows : Shows (memoryAfter ms cs) (stateAfter ms cs)
+  pub answers : answersAfter ms cs ≡ refusalsAfter ms (actionsOf cs)
+  pub hands : (card : Card) → receiveAnswer (memoryAfter ms cs) card ≡ cond (ltb (card .0) (cardsOf ms)) (handedUp ((stateAfter ms cs) .inbox (card .0))) NoSuchCard
+  pub taken : (i : ℕ) → takenBy (memoryAfter ms cs) i ≡ cond (ltb i (cardsOf ms)) ((stateAfter ms cs) .taken i) 0
+  pub made : madeOf (memoryAfter ms cs) ≡ length ((stateAfter ms cs) .sent)
+  pub promise : CallsPromise (letters ms) (actionsOf cs)
+  pub events : CallsEvents (letters ms) (actionsOf cs)
+  pub complete : CallsComplete (letters ms) (actionsOf cs)
   pub to-cards : GoesToCards (letters ms)

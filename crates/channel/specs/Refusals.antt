@@ -10,7 +10,7 @@ use Rattle.lists.specs.Every.{each}
 use Rattle.lists.specs.Filters.{filter}
 use Rattle.lists.specs.Queues.{push}
 use Rattle.channel.specs.Mail.{Mail}
-use Rattle.channel.specs.State.{Tagged, ChannelState, nth, released, ChannelAction, dispatch, takeBroadcast, takeSingle, deliver}
+use Rattle.channel.specs.State.{Tagged, ChannelState, nth, released, ChannelAction, dispatch, takeBroadcast, takeSingle, deliver, ripe}
 
 -- 0 if the test passes, else the refusal
 abbrev pub otherwise : ℕ → Bool → ℕ
@@ -43,7 +43,7 @@ module _ {M : Type 0} (mail : Mail M) (cards : ℕ) where
   abbrev pub singleRefusal : ChannelState M → Option (Tagged M) → ℕ
   singleRefusal w none = 32
   singleRefusal w (some x) =
-      cond (leb (x .mark) (w .taken (mail .dest (x .msg))))
+      cond (ripe mail w x)
       (otherwise 6 (ltb (length (w .inbox (mail .dest (x .msg)))) 48))
       (otherwise 6 (ltb (length (w .held (mail .dest (x .msg)))) 16))
 

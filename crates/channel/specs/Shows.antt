@@ -48,3 +48,13 @@ pub record Shows (ws : List ℕ) (w : ChannelState Letter) : Type 0 where
   pub flight= : (t : ℕ) → t < tasksOf ws → w .flight t ≡ flightOf ws t
   pub held= : (i : ℕ) → i < cardsOf ws → w .held i ≡ heldOf ws i
   pub inbox= : (i : ℕ) → i < cardsOf ws → w .inbox i ≡ inboxOf ws i
+
+-- Every memory shows a state; broadcasts that are overwritten may be any.
+unfoldable pub stateOf : List ℕ → ChannelState Letter
+stateOf ws = record {
+  sent = listing (λ n. letterAt ws (broadcastBlock (n + 1))) (madeOf ws);
+  taken = takenOf ws;
+  flight = flightOf ws;
+  held = heldOf ws;
+  inbox = inboxOf ws;
+}

@@ -1,8 +1,8 @@
 -- A well-sized memory: what a step must find, else it is refused with 6 ("an ill-sized state: a size, number or queue length past its
 -- limit .. A home, destination or message field naming an absent card, task or register, or an unknown function, is past its limit too. So
 -- is a card's number of broadcasts taken when it is above the number made or more than 64 below it"). The parts of absent cards and tasks
--- are not looked at.
-use Prim.Native.Nat.{ℕ, _+_, _-_, _%_, min}
+-- are not looked at. No fault: more than 32 broadcasts in an inbox of at most 48, and a tag above the number made.
+use Prim.Native.Nat.{ℕ, _+_, _-_, min}
 use mathlib.Core.Bool.{Bool, _&&_, _||_}
 use mathlib.Core.List.{List}
 use lib.Dec.{eqb, ltb, leb}

@@ -55,7 +55,15 @@ pub data ChannelAction (M : Type 0) : Type 0 where
   takeSingle : ℕ → ChannelAction M  -- step 8: task
   deliver : ℕ → ChannelAction M  -- step 9: card
 
+-- the message with its tag, "the number of broadcasts this card has taken"
+abbrev pub tagging : {M : Type 0} → ChannelState M → ℕ → M → Tagged M
+tagging w i m = record { msg = m; mark = w .taken i }
+
 module _ {M : Type 0} (mail : Mail M) where
+  -- "A tag at most the number taken there"
+  abbrev pub ripe : ChannelState M → Tagged M → Bool
+  ripe w x = leb (x .mark) (w .taken (mail .dest (x .msg)))
+
   -- step 6 (mcast to BC or PP): "More than one destination: it gets the next broadcast number, from 1. One destination: it is tagged with
   -- the number of broadcasts this card has taken and is in flight."
   abbrev pub dispatching : Bool → ChannelState M → ℕ → M → ChannelState M
@@ -63,7 +71,7 @@ module _ {M : Type 0} (mail : Mail M) where
   dispatching false w i m = record {
     sent = w .sent;
     taken = w .taken;
-    flight = λ c. cond (eqb c (mail .task m)) (some (record { msg = m; mark = w .taken i })) (w .flight c);
+    flight = λ c. cond (eqb c (mail .task m)) (some (tagging w i m)) (w .flight c);
     held = w .held;
     inbox = w .inbox;
   }
@@ -99,7 +107,7 @@ module _ {M : Type 0} (mail : Mail M) where
 
   abbrev pub arriving : ChannelState M → ℕ → Option (Tagged M) → ChannelState M
   arriving w c none = w
-  arriving w c (some x) = landing (leb (x .mark) (w .taken (mail .dest (x .msg)))) w c x
+  arriving w c (some x) = landing (ripe w x) w c x
 
   -- step 9 (receive): the head leaves the inbox
   abbrev pub delivering : ChannelState M → ℕ → ChannelState M

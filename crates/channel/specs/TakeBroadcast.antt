@@ -1,12 +1,11 @@
 -- Step 7: "the card takes the next number. It joins the inbox if the card is a destination, else it is dropped. Then held single messages
 -- whose tag equals the new number join, in order of arrival."
-use Prim.Native.Nat.{ℕ, zero, suc, _+_, _*_, _%_, min}
-use mathlib.Core.Path.{_≡_, refl}
-use mathlib.Core.Bool.{Bool, true, false, cond}
+use Prim.Native.Nat.{ℕ, _+_, min}
+use mathlib.Core.Bool.{Bool, cond}
 use mathlib.Core.List.{List}
 use lib.Dec.{eqb, ltb, leb}
-use lib.ListN.{getD, set}
-use Rattle.lists.specs.Loops.{turns, turns-more, total}
+use lib.ListN.{set}
+use Rattle.lists.specs.Loops.{turns, total}
 use Rattle.names.specs.CardSet.{memberOf, several}
 use Rattle.names.specs.declared.Card.{Card}
 use Rattle.names.specs.declared.Letter.{Letter}
@@ -54,14 +53,6 @@ swept i n k s = record { words = sweptWords i n k (s .words) (s .kept); kept = s
 -- the first k of them
 unfoldable pub sweeps : ℕ → ℕ → ℕ → List ℕ → Sweep
 sweeps i n k ws = turns (swept i n) k (record { words = ws; kept = 0 })
-
-pub sweeps-zero : (i n : ℕ) (ws : List ℕ) → sweeps i n 0 ws ≡ record { words = ws; kept = 0 }
-unfolding sweeps turns
-sweeps-zero i n ws = refl
-
-pub sweeps-more : (i n k : ℕ) (ws : List ℕ) → sweeps i n (k + 1) ws ≡ swept i n k (sweeps i n k ws)
-unfolding sweeps
-sweeps-more i n k ws = turns-more (swept i n) k _
 
 -- the held messages of card i with tag n join its inbox, and the others close up
 unfoldable pub releasedWords : List ℕ → ℕ → ℕ → List ℕ

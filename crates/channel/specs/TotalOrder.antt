@@ -44,9 +44,10 @@ module _ {M : Type 0} (N : Network M) where
   receives? m (receive n i) = N .eqm n m && eqb i (N .mail .dest m)
   receives? m rest = false
 
-  -- "If π is a multi-destination mcast, then epoch(π) is the value assigned to the state component seqno when π's receive
-  -- (from BC) occurs at any site": the broadcast's number. Of another message, seqno at its destination when it joins the inbox there, which is 000's maximum of
-  -- the tag and of seqno there at its arrival: it joins at its arrival if the tag is no larger, and else when seqno becomes the tag.
+  -- "If π is a multi-destination mcast, then epoch(π) is the value assigned to the state component seqno when π's receive (from BC) occurs
+  -- at any site": the broadcast's number. Of another message, seqno at its destination when it joins the inbox there. That is 000's maximum
+  -- of its tag and of seqno there at its arrival (proofs/CallsEpoch): it joins at its arrival if the tag is no larger, and else when seqno
+  -- becomes the tag.
   abbrev pub epoch : List (Step M) → M → ℕ
   epoch E m = cond (N .mail .multi m) ((chan N E) .mark m) (latest (λ B. (chan N B) .taken (N .mail .dest m)) (joins? m) E)
 

@@ -3,9 +3,8 @@ use mathlib.Core.Bool.{cond}
 use mathlib.Core.List.{List, [], _∷_}
 use mathlib.Core.Option.{Option, none, some}
 use Prim.Native.Nat.{ℕ, suc}
-use lib.Dec.{leb}
 use Rattle.channel.specs.Mail.{Mail}
-use Rattle.channel.specs.State.{Tagged, ChannelState, nth, released, ChannelAction, dispatch, takeBroadcast, takeSingle, deliver}
+use Rattle.channel.specs.State.{Tagged, ChannelState, nth, released, ChannelAction, dispatch, takeBroadcast, takeSingle, deliver, ripe}
 use Rattle.channel.specs.Automaton.{Step, mcast, take, join, receive}
 
 module _ {M : Type 0} where
@@ -28,7 +27,7 @@ module _ {M : Type 0} (mail : Mail M) where
   -- step 8: the message joins, or is held, which the automaton does not see
   abbrev pub steps-single : ChannelState M → Option (Tagged M) → List (Step M) → List (Step M)
   steps-single w none E = E
-  steps-single w (some x) E = cond (leb (x .mark) (w .taken (mail .dest (x .msg)))) (join (x .msg) ∷ E) E
+  steps-single w (some x) E = cond (ripe mail w x) (join (x .msg) ∷ E) E
 
   abbrev pub steps : ChannelState M → ChannelAction M → List (Step M) → List (Step M)
   steps w (dispatch i m) E = mcast m ∷ E

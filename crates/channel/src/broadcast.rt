@@ -61,8 +61,8 @@ fn sweep(memory: &mut [u32; 4808], i: usize, n: u32, k: usize, kept: usize) -> u
 {
     let block = KEPT + i * BLOCKS + k;
     let letter = load(memory, block);
-    let tag = memory[block * 8 + 7];
-    if tag == n {
+    let mark = memory[block * 8 + 7];
+    if mark == n {
         push(memory, i, letter);
         return kept;
     }
@@ -70,7 +70,7 @@ fn sweep(memory: &mut [u32; 4808], i: usize, n: u32, k: usize, kept: usize) -> u
         memory,
         KEPT + i * BLOCKS + kept,
         letter,
-        BroadcastNumber(tag),
+        BroadcastNumber(mark),
     );
     kept + 1
 }
@@ -96,8 +96,8 @@ fn broadcast_at(memory: &[u32; 4808], i: usize, k: u32) -> usize
     ensures { λ r. ⌜ (r ≡ broadcastAt (now (memory .entry)) i k) × (r ≤ 1) ⌝ }
 {
     let head = memory[FIRST + i * PART + HEAD];
-    let letter = load(memory, INBOX + i * BLOCKS + ((head % 48 + k) % 48) as usize);
-    if names::several(letter.to) {
+    let block = INBOX + i * BLOCKS + ((head % 48 + k) % 48) as usize;
+    if names::several(memory[block * 8 + 6]) {
         return 1;
     }
     0

@@ -1,19 +1,22 @@
 -- Sets of cards 0 to 7: small facts by computation over all of them; and what an accepted placement says of its sets of holders.
-use Prim.Native.Nat.{ℕ, _^_, _≤_, _<_}
-use mathlib.Core.Path.{_≡_, refl, sym, ap, _∙_}
-use mathlib.Core.Logic.{_⊎_, inl, inr}
-use mathlib.Core.Bool.{Bool, true, false, cond, _&&_, _||_, not, true≢false, false≢true}
-use native.Mathlib.Nat.{pow-le-pow-right, div-eq-of-lt}
+use Prim.Native.Nat.{ℕ, _<_, _^_, _≤_}
+use borrow.Author.Tests.{eqb-true, leb-true, ltb-false, ltb-true, not-false, not-true}
+use lib.Dec.{eqb, leb, ltb}
+use lib.ListN.{List·getD-eq-default}
+use mathlib.Core.Bool.{Bool, cond, false, false≢true, not, true, _&&_, _||_}
+use mathlib.Core.Logic.{inl, inr, _↔_, _⊎_}
+use mathlib.Core.Path.{ap, refl, sym, _∙_, _≡_}
 use native.Mathlib.Decide.{decLt}
+use native.Mathlib.Nat.{div-eq-of-lt, pow-le-pow-right}
 use native.Mathlib.Omega.{arith}
-use lib.Dec.{eqb, ltb, leb}
-use lib.ListN.{length, getD, List·getD-eq-default}
-use borrow.Author.Tests.{eqb-true, ltb-true, ltb-false, leb-true}
-use Rattle.lists.specs.Tests.{bool, clash, and-fst, and-snd, eqb-not, eqb-of}
-use Rattle.lists.specs.Every.{each, each-at}
-use Rattle.lists.specs.Loops.{turns, total}
-use Rattle.names.specs.CardSet.{memberOf, sizeOf, single, soleOf, justOf}
-use Rattle.names.specs.Placement.{Placement, tasks, registers, home, holders, primary, copy, sizesInRange, sized, homePlaced, homesPlaced, registerPlaced, registersPlaced, placed, placementRefusal}
+use Rattle.lists.specs.Every.{each, each-at, each-of}
+use Rattle.lists.specs.Keys.{less}
+use Rattle.lists.specs.Loops.{total, turns}
+use Rattle.lists.specs.Tests.{and-fst, and-intro, and-snd, bool, eqb-not, eqb-of}
+use Rattle.names.specs.CardSet.{justOf, memberOf, several, single, sizeOf, soleOf}
+use Rattle.names.proofs.CardSets.{not-several, single-of}
+use Rattle.names.specs.Placement.{Placement, copy, holders, home, homePlaced, homesPlaced, placed, placementRefusal, primary, registerPlaced, registers, registersPlaced, sized, sizesInRange, tasks}
+use Rattle.claims.specs.Refusals.{alone}
 
 -- two tests with one value
 abbrev agree : Bool → Bool → Bool
@@ -23,14 +26,6 @@ agree-eq : (a b : Bool) → agree a b ≡ true → a ≡ b
 agree-eq true b e = sym e
 agree-eq false true e = absurd (false≢true e)
 agree-eq false false e = refl
-
-pub not-true : (t : Bool) → not t ≡ true → t ≡ false
-not-true true e = absurd (false≢true e)
-not-true false e = refl
-
-pub not-false : (t : Bool) → not t ≡ false → t ≡ true
-not-false true e = refl
-not-false false e = absurd (true≢false e)
 
 implies : (a b : Bool) → (not a || b) ≡ true → a ≡ true → b ≡ true
 implies true b e h = e
@@ -43,6 +38,17 @@ alone-at s = not (single s) || (ltb (soleOf s) 8 && each 8 (λ i. agree (memberO
 all-alone : each 256 alone-at ≡ true
 unfolding alone-at each single sizeOf soleOf memberOf total turns eqb leb
 all-alone = refl
+
+-- and a set that has no other card than i has one card
+others : ℕ → ℕ → Bool
+others s i = each 8 (λ j. not (memberOf s j) || eqb j i)
+
+sole-at : ℕ → Bool
+sole-at s = each 8 (λ i. not (memberOf s i && others s i) || single s)
+
+all-sole : each 256 sole-at ≡ true
+unfolding sole-at others each single sizeOf memberOf total turns eqb leb
+all-sole = refl
 
 just-at : ℕ → Bool
 just-at j = single (justOf j) && eqb (soleOf (justOf j)) j && ltb (justOf j) 256
@@ -73,6 +79,16 @@ single-member s h u i = go (decLt i 8)
     go : Dec (i < 8) → memberOf s i ≡ eqb i (soleOf s)
     go (yes l) = agree-eq _ _ (each-at 8 (λ j. agree (memberOf s j) (eqb j (soleOf s))) (and-snd (ltb (soleOf s) 8) _ both) i l)
     go (no l) = member-high s 8 i h (omega arith) ∙ sym (eqb-not {m = i} {n = soleOf s} (λ q. absurd (omega (arith, low))))
+
+pub member-single : (s i : ℕ) → s < 256 → i < 8 → memberOf s i ≡ true → ((j : ℕ) → memberOf s j ≡ true → j ≡ i) → single s ≡ true
+unfolding sole-at others
+member-single s i h l m f =
+    implies (memberOf s i && others s i) (single s) (each-at 8 (λ k. not (memberOf s k && others s k) || single s) (each-at 256 sole-at all-sole s h) i l)
+    (and-intro m (each-of 8 (λ j. not (memberOf s j) || eqb j i) (λ j x. go j (memberOf s j) refl)))
+  where
+    go : (j : ℕ) (t : Bool) → memberOf s j ≡ t → (not t || eqb j i) ≡ true
+    go j true e = eqb-of (f j e)
+    go j false e = refl
 
 -- ---- the set of one card
 
@@ -183,3 +199,19 @@ module _ (P : Placement) (ok : placementRefusal P ≡ 0) where
   -- the only copy
   pub only : (x : ℕ) → single (holders P x) ≡ true → (i : ℕ) → copy P x i ≡ eqb i (soleOf (holders P x))
   only x u i = copy-member x i ∙ single-member (holders P x) (holders-low x) u i
+
+  -- "the only holder", in plain terms
+  pub alone-exact : (x i : ℕ) → (alone P x i ≡ true) ↔ ((copy P x i ≡ true) × ((j : ℕ) → copy P x j ≡ true → j ≡ i))
+  alone-exact x i = (there?, back)
+    where
+      there? : alone P x i ≡ true → (copy P x i ≡ true) × ((j : ℕ) → copy P x j ≡ true → j ≡ i)
+      there? e =
+          let c = and-fst (copy P x i) _ e in
+          let n = single-of (holders P x) (not-true (several (holders P x)) (and-snd (copy P x i) _ e)) in
+          (c, λ j d. eqb-true _ _ (sym (only x n j) ∙ d) ∙ sym (eqb-true _ _ (sym (only x n i) ∙ c)))
+
+      back : (copy P x i ≡ true) × ((j : ℕ) → copy P x j ≡ true → j ≡ i) → alone P x i ≡ true
+      back (c, f) =
+          let l = ltb-true i (P .cards) (and-fst (ltb i (P .cards)) _ c) in
+          let m = member-single (holders P x) i (holders-low x) (omega (arith, cards-low)) (sym (copy-member x i) ∙ c) (λ j e. f j (copy-member x j ∙ e)) in
+          and-intro c (ap not (not-several (holders P x) m))

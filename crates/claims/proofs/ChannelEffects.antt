@@ -6,6 +6,8 @@ use mathlib.Core.Bool.{Bool, cond, false, not, true, _&&_}
 use mathlib.Core.List.{List, map, _∷_}
 use mathlib.Core.Option.{Option·map}
 use mathlib.Core.Path.{ap, ap₂, refl, subst, sym, _∙_, _≡_}
+use Rattle.channel.proofs.RenamedSteps.{channelStep-map}
+use Rattle.channel.specs.Renaming.{channel-map, tag-map}
 use Rattle.channel.specs.State.{channelStep}
 use Rattle.lists.specs.Histories.{In, here}
 use Rattle.lists.specs.Maps.{map-pop}
@@ -19,10 +21,8 @@ use Rattle.registers.specs.Layer.{Msg, ask, from, reply, to}
 use Rattle.claims.proofs.Executions.{Execution, Holds, trace}
 use Rattle.claims.proofs.Joint.{upper}
 use Rattle.claims.proofs.LedgerRun.{Sim, ord, rk, valid}
-use Rattle.claims.proofs.Renaming.{channel-map, channelStep-map, tag-map}
-use Rattle.claims.proofs.Shown.{alike, applyOp, seen, showMsg, showStatus, shown, vals}
+use Rattle.claims.proofs.Shown.{alike, applyOp, seen, sent-alike, showMsg, showStatus, shown, vals}
 use Rattle.claims.proofs.Stable.{S, hold, renamed}
-use Rattle.claims.proofs.Taken.{taken}
 use Rattle.claims.proofs.TaskEffects.{copy-set, out-set, status-set}
 use Rattle.claims.specs.Ledger.{Action, Ledger, Op, ledger, mailOf, opAt, world}
 use Rattle.claims.specs.Published.{Letter, Published, delivering, dispatching, doneRead, doneUpdate, effect, mail, post, receiving, replyTo, setStatus, withChannel}
@@ -48,7 +48,7 @@ module _ (P : Placement) (ok : placementRefusal P ≡ 0) (ds : List Action) wher
     status = λ c. showStatus (before .ops) ((vals P ds) .found) (before .layer .status c);
     table = T;
     out = λ a. outs a j;
-    channel = channelStep-map h (mailOf P (world P before)) mail (alike P ok ds (f .1)) (before .channel) (C.dispatch i m) j;
+    channel = channelStep-map h (mailOf P (world P before)) mail (alike P ok ds (f .1)) (before .channel) (sent-alike P ok ds (f .1)) (C.dispatch i m) j;
   })
     where
       from-i : from (world P before) m ≡ i
@@ -67,11 +67,11 @@ module _ (P : Placement) (ok : placementRefusal P ≡ 0) (ds : List Action) wher
 
   -- 7
   pub does-take : (i : ℕ) (f : Execution P (Action.takeBroadcast i ∷ ds)) → effect P (shown P ds) (K.takeBroadcast i) ≡ shown P (Action.takeBroadcast i ∷ ds)
-  does-take i f = ap (withChannel (shown P ds)) (channelStep-map h (mailOf P (world P before)) mail (alike P ok ds (f .1)) (before .channel) (C.takeBroadcast i))
+  does-take i f = ap (withChannel (shown P ds)) (channelStep-map h (mailOf P (world P before)) mail (alike P ok ds (f .1)) (before .channel) (sent-alike P ok ds (f .1)) (C.takeBroadcast i))
 
   -- 8
   pub does-single : (c : ℕ) (f : Execution P (Action.takeSingle c ∷ ds)) → effect P (shown P ds) (K.takeSingle c) ≡ shown P (Action.takeSingle c ∷ ds)
-  does-single c f = ap (withChannel (shown P ds)) (channelStep-map h (mailOf P (world P before)) mail (alike P ok ds (f .1)) (before .channel) (C.takeSingle c))
+  does-single c f = ap (withChannel (shown P ds)) (channelStep-map h (mailOf P (world P before)) mail (alike P ok ds (f .1)) (before .channel) (sent-alike P ok ds (f .1)) (C.takeSingle c))
 
   -- the head of an inbox
   popped : (found : ℕ → ℕ) (i : ℕ) → channelStep mail (channel-map (showMsg P (before .ops) (before .chosen) found) (before .channel)) (C.deliver i)

@@ -7,6 +7,7 @@ use mathlib.Core.List.{List, [], _++_, _∷_}
 use mathlib.Core.Logic.{inl, inr, _⊎_}
 use mathlib.Core.Option.{Option, none, some}
 use mathlib.Core.Path.{ap, refl, subst, sym, _∙_, _≡_}
+use Rattle.channel.specs.Examples.{reading}
 use Rattle.channel.specs.State.{nth}
 use Rattle.channel.specs.Trace.{steps}
 use Rattle.lists.specs.Filters.{filter}
@@ -25,7 +26,7 @@ use Rattle.claims.proofs.Together.{answer-at, answer-is, together}
 use Rattle.claims.specs.Ledger.{Action, Ledger, Op, ledger, ledgerRefusal, noted, notes, opAt, paper, paperFrom, plan}
 use Rattle.claims.specs.Published.{begin, post}
 use Rattle.claims.specs.PublishedRun.{answersFrom, publishedRun}
-use Rattle.claims.specs.SerialOrder.{ReportedAt, SerialOrder, appliedOn, book, madeOfZero, op, updates}
+use Rattle.claims.specs.SerialOrder.{Explained, ReportedAt, appliedOn, book, madeOfZero, op, updates}
 use Rattle.claims.specs.Steps.{Decoded, RawStep, bad, decode, good}
 use Rattle.claims.specs.Ledger as L
 use Rattle.registers.specs.Layer as R
@@ -116,7 +117,7 @@ module _ (P : Placement) (ok : placementRefusal P ≡ 0) where
     explained : (order : List ℕ) × Demand3 P ok zeroStart applyOp (paper P steps) order
     explained = demand3 P ok zeroStart applyOp (paper P steps) (executes P ok steps)
 
-    pub demand-3 : (order : List ℕ) × SerialOrder P steps (publishedRun P steps .1) ((publishedRun P steps .0) .table) order
+    pub demand-3 : Explained P steps (publishedRun P steps .1) ((publishedRun P steps .0) .table)
     demand-3 = (
       r .0,
       record {

@@ -1,6 +1,6 @@
 -- Both layers together: the register layer over the channel. No promise is assumed here; the channel's is proved.
 use Prim.Native.Nat.{ℕ}
-use borrow.Author.Tests.{eqb-true}
+use borrow.Author.Tests.{eqb-true, not-false}
 use lib.Dec.{eqb}
 use mathlib.Core.Bool.{Bool, cond, false, false≢true, true}
 use mathlib.Core.List.{List, [], map, _∷_}

@@ -17,3 +17,17 @@ pub mod ChannelEffects
 pub mod SameEffect
 pub mod Together
 pub mod Demand3
+pub mod TakenIf
+pub mod NumbersMean
+pub mod NumbersExact
+pub mod StepNumbers
+pub mod RefusalExact
+pub mod Pending
+pub mod OnTheWay
+pub mod ChannelLimits
+pub mod Range
+pub mod Steady
+pub mod Room
+pub mod NeverSix
+pub mod NamedRuns
+pub mod ForcedAnswer

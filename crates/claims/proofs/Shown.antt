@@ -8,6 +8,7 @@ use mathlib.Core.List.{List, [], map, _∷_}
 use mathlib.Core.Option.{Option, Option·getD, Option·none-ne-some, Option·some-injective, none, some}
 use mathlib.Core.Path.{ap, ap₂, fun-ext, refl, sym, _∙_, _≡_}
 use native.Mathlib.Omega.{arith}
+use Rattle.channel.specs.Renaming.{Alike, SentAlike, channel-map}
 use Rattle.channel.specs.State.{ChannelState}
 use Rattle.names.specs.CardSet.{justOf, memberOf, several, soleOf}
 use Rattle.names.specs.Placement.{Placement, copy, holders, home, placementRefusal, primary}
@@ -18,7 +19,7 @@ use Rattle.names.proofs.CardSets.{not-several}
 use Rattle.claims.proofs.CardSets.{cards-low, copy-member, home-low, just-member, just-single, just-sole}
 use Rattle.claims.proofs.Executions.{Execution}
 use Rattle.claims.proofs.LedgerValues.{Values, values}
-use Rattle.claims.proofs.Renaming.{Alike, channel-map, refusal-map}
+use Rattle.claims.proofs.Renaming.{refusal-map}
 use Rattle.claims.specs.Command.{Command}
 use Rattle.claims.specs.Ledger.{Action, Ledger, Op, answeredOf, first, ledger, ledgerRefusal, mailOf, opAt, sightOf, stageOf, world}
 use Rattle.claims.specs.Published.{Doing, Letter, Published, answered, askingRead, askingUpdate, commandRefusal, doneRead, doneUpdate, mail, quiet, replies, stage, waiting}
@@ -117,19 +118,11 @@ module _ (P : Placement) (ok : placementRefusal P ≡ 0) (ds : List Action) (f :
 
   -- the channel reads the same off a message with its operation's number and off the published letter
   pub alike : Alike h (mailOf P (world P b)) mail
-  alike = record { task= = task=; to= = to=; multi= = multi=; dest= = dest= }
+  alike = record { task= = task=; multi= = multi=; dest= = dest= }
     where
       task= : (m : Msg) → mail .task (h m) ≡ (mailOf P (world P b)) .task m
       task= (ask k) = refl
       task= (reply k) = refl
-
-      to= : (m : Msg) (i : ℕ) → mail .to (h m) i ≡ (mailOf P (world P b)) .to m i
-      to= (ask k) i = go (opAt (b .ops) k) ((opAt (b .ops) k) .upd)
-        where
-          go : (o : Op) (t : Bool) → memberOf (cond t (holders P (o .reg)) (justOf (Option·getD (b .chosen k) 0))) i ≡ cond t (copy P (o .reg) i) (eqb i (Option·getD (b .chosen k) 0))
-          go o true = sym (copy-member P ok (o .reg) i)
-          go o false = just-member (Option·getD (b .chosen k) 0) (asked-low k) i
-      to= (reply k) i = just-member (home P ((opAt (b .ops) k) .task)) (home-low P ok ((opAt (b .ops) k) .task)) i
 
       multi= : (m : Msg) → mail .multi (h m) ≡ (mailOf P (world P b)) .multi m
       multi= (ask k) = go (opAt (b .ops) k) ((opAt (b .ops) k) .upd)
@@ -147,7 +140,18 @@ module _ (P : Placement) (ok : placementRefusal P ≡ 0) (ds : List Action) (f :
           go o false = just-sole (Option·getD (b .chosen k) 0) (asked-low k)
       dest= (reply k) = just-sole (home P ((opAt (b .ops) k) .task)) (home-low P ok ((opAt (b .ops) k) .task))
 
-  answered-alike : (m : Msg) (i : ℕ) → answered P (h m) i ≡ answeredOf (world P b) m i
+  to-alike : (m : Msg) (i : ℕ) → mail .to (h m) i ≡ (mailOf P (world P b)) .to m i
+  to-alike (ask k) i = go (opAt (b .ops) k) ((opAt (b .ops) k) .upd)
+    where
+      go : (o : Op) (t : Bool) → memberOf (cond t (holders P (o .reg)) (justOf (Option·getD (b .chosen k) 0))) i ≡ cond t (copy P (o .reg) i) (eqb i (Option·getD (b .chosen k) 0))
+      go o true = sym (copy-member P ok (o .reg) i)
+      go o false = just-member (Option·getD (b .chosen k) 0) (asked-low k) i
+  to-alike (reply k) i = just-member (home P ((opAt (b .ops) k) .task)) (home-low P ok ((opAt (b .ops) k) .task)) i
+
+  pub sent-alike : SentAlike h (mailOf P (world P b)) mail (b .channel)
+  sent-alike n m e i = to-alike m i
+
+  pub answered-alike : (m : Msg) (i : ℕ) → answered P (h m) i ≡ answeredOf (world P b) m i
   answered-alike (ask k) i = go (opAt (b .ops) k) ((opAt (b .ops) k) .upd) (askLetter P (opAt (b .ops) k) (b .chosen k)) refl refl
     where
       go : (o : Op) (t : Bool) (m : Letter) → m .reg ≡ o .reg → m .task ≡ o .task
@@ -165,4 +169,4 @@ module _ (P : Placement) (ok : placementRefusal P ≡ 0) (ds : List Action) (f :
   same-refusal c =
       ap (λ g. refusal P mail (answered P) (record { requests = length (b .ops); stage = g; out = λ i. map h (b .layer .out i); channel = channel-map h (b .channel) }) c)
       (fun-ext (λ t. same-stage P (b .ops) ((vals P ds) .found) (b .layer .status t)))
-      ∙ refusal-map P h (mailOf P (world P b)) mail alike (answeredOf (world P b)) (answered P) answered-alike (sightOf P b) c
+      ∙ refusal-map P h (mailOf P (world P b)) mail alike (answeredOf (world P b)) (answered P) answered-alike (sightOf P b) sent-alike c

@@ -8,6 +8,8 @@ use mathlib.Core.Option.{Option, some}
 use mathlib.Core.Path.{ap, ap₂, refl, subst, sym, _∙_, _≡_}
 use Rattle.channel.proofs.Joining.{inbox-mcast}
 use Rattle.channel.specs.Automaton.{Mcasts}
+use Rattle.channel.specs.Calls.{letter}
+use Rattle.channel.specs.Renaming.{tag-map}
 use Rattle.channel.specs.State.{Tagged, nth}
 use Rattle.lists.specs.Histories.{Any, In, any-map, back, here, stop, there}
 use Rattle.lists.specs.Maps.{map-agree, option-agree}
@@ -21,16 +23,14 @@ use Rattle.claims.proofs.Executions.{Execution, Holds, holds-back, trac
 use Rattle.claims.proofs.Joint.{lower, net, upper}
 use Rattle.claims.proofs.LedgerRun.{Sim, asked-op, ended-requested, flows, op-same, ord, rk, same-mcast, same-sent}
 use Rattle.claims.proofs.LedgerRuns.{sim}
-use Rattle.claims.proofs.Renaming.{tag-map}
 use Rattle.claims.proofs.SameWorld.{Same}
 use Rattle.claims.proofs.Shown.{applyOp, askLetter, replyLetter, seen, showMsg, showStatus, shown, vals, zeroStart}
-use Rattle.claims.proofs.Taken.{taken}
 use Rattle.claims.specs.Ledger.{Action, Ledger, Op, ledger, opAt, worldOf}
 use Rattle.claims.specs.Published.{Letter, askingRead, askingUpdate, doneRead, doneUpdate}
 use Rattle.registers.specs.Layer as R
 use Rattle.claims.specs.Ledger as L
 
-nth-in : {A : Type 0} {a : A} {l : List A} → In a l → (n : ℕ) × (nth l n ≡ some a)
+pub nth-in : {A : Type 0} {a : A} {l : List A} → In a l → (n : ℕ) × (nth l n ≡ some a)
 nth-in (here p) = (0, ap some p)
 nth-in (there h) = let r = nth-in h in (suc (r .0), r .1)
 

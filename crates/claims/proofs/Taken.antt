@@ -1,6 +1,6 @@
 -- A step that is not refused is an action of the ledger that could take place; and the list on paper is such a list.
 use Prim.Native.Nat.{suc, ℕ, _<_}
-use borrow.Author.Tests.{eqb-true, ltb-true}
+use borrow.Author.Tests.{ltb-true}
 use lib.Dec.{eqb, ltb}
 use lib.ListN.{length}
 use mathlib.Core.Bool.{Bool, cond, false, false≢true, not, true, true≢false, _&&_}
@@ -12,11 +12,9 @@ use native.Mathlib.Omega.{arith}
 use Rattle.channel.specs.Refusals.{otherwise}
 use Rattle.lists.specs.Histories.{Suf, back, stop, suf-trans}
 use Rattle.lists.specs.Tests.{and-fst, and-snd, eqb-not, eqb-of}
-use Rattle.names.specs.CardSet.{several}
-use Rattle.names.specs.Placement.{Placement, copy, holders, home, placementRefusal}
+use Rattle.names.specs.Placement.{Placement, copy, home, placementRefusal}
 use Rattle.registers.specs.Layer.{Msg, Status}
-use Rattle.names.proofs.CardSets.{single-of}
-use Rattle.claims.proofs.CardSets.{not-true, only, some-card}
+use Rattle.claims.proofs.CardSets.{alone-exact, some-card}
 use Rattle.claims.proofs.Executions.{Enabled, Execution}
 use Rattle.claims.specs.Command.{Command}
 use Rattle.claims.specs.Ledger.{Action, Ledger, Op, about, answeredOf, headed, ledger, ledgerRefusal, mailOf, noted, notes, opAt, paper, paperFrom, plan, readOp, stageOf, updateOp, world}
@@ -40,12 +38,6 @@ module _ (P : Placement) (ok : placementRefusal P ≡ 0) where
   abbrev pub Taken : Ledger → Command → Type 0
   Taken b c = (d : Action) × (plan b c ≡ some d) × Enabled P b d
 
-  -- the only holder
-  sole-is : (x i : ℕ) → alone P x i ≡ true → (j : ℕ) → copy P x j ≡ true → j ≡ i
-  sole-is x i e j c =
-      let n = single-of (holders P x) (not-true (several (holders P x)) (and-snd (copy P x i) _ e)) in
-      eqb-true _ _ (sym (only P ok x n j) ∙ c) ∙ sym (eqb-true _ _ (sym (only P ok x n i) ∙ and-fst (copy P x i) _ e))
-
   request-taken : (b : Ledger) (o : Op) (n : ℕ) (s : Status) → b .layer .status (o .task) ≡ s → requestRefusal n (stageOf (b .ops) s) ≡ 0 → Enabled P b (Action.request o)
   request-taken b o n R.quiet q e = q
   request-taken b o n (R.asking k) q e = absurd (go (opAt (b .ops) k) ((opAt (b .ops) k) .upd) e)
@@ -63,7 +55,7 @@ module _ (P : Placement) (ok : placementRefusal P ≡ 0) where
     where
       go : (o : Op) (t : Bool) → performRefusal P (home P c) (cond t (S.asksUpdate (o .reg)) (S.asksRead (o .reg))) ≡ 0
           → (copy P (o .reg) (home P c) ≡ true) × (t ≡ true → (j : ℕ) → copy P (o .reg) j ≡ true → j ≡ home P c)
-      go o true z = let a = passes 21 (alone P (o .reg) (home P c)) z in (and-fst (copy P (o .reg) (home P c)) _ a, λ u. sole-is (o .reg) (home P c) a)
+      go o true z = let a = passes 21 (alone P (o .reg) (home P c)) z in (and-fst (copy P (o .reg) (home P c)) _ a, λ u. alone-exact P ok (o .reg) (home P c) .0 a .1)
       go o false z = (passes 21 (copy P (o .reg) (home P c)) z, λ u. absurd (false≢true u))
   perform-taken b c (R.waiting k) q e = absurd (omega arith)
   perform-taken b c (R.done k) q e = absurd (omega arith)

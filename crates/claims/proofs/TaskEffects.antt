@@ -9,6 +9,7 @@ use mathlib.Core.List.{List, [], map, _++_, _∷_}
 use mathlib.Core.Option.{Option, none, some}
 use mathlib.Core.Path.{ap, ap₂, refl, subst, sym, _∙_, _≡_}
 use native.Mathlib.Omega.{arith}
+use Rattle.channel.specs.Renaming.{channel-map}
 use Rattle.lists.specs.Maps.{map-push}
 use Rattle.lists.specs.Queues.{push}
 use Rattle.lists.specs.Tests.{and-fst, and-snd, eqb-refl}
@@ -22,7 +23,6 @@ use Rattle.registers.specs.Layer.{Msg, Status, ask, to}
 use Rattle.claims.proofs.Executions.{Execution, trace}
 use Rattle.claims.proofs.Joint.{upper}
 use Rattle.claims.proofs.LedgerRun.{asked-of, asked-op}
-use Rattle.claims.proofs.Renaming.{channel-map}
 use Rattle.claims.proofs.Shown.{applyOp, askLetter, seen, showMsg, showStatus, shown, vals}
 use Rattle.claims.proofs.Stable.{S, hold, renamed}
 use Rattle.claims.specs.Ledger.{Action, Ledger, Op, first, ledger, noOp, opAt, world, worldOf}

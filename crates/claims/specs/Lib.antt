@@ -2,6 +2,10 @@ pub mod Command
 pub mod Steps
 pub mod Refusals
 pub mod Published
+pub mod Allowed
 pub mod PublishedRun
 pub mod Ledger
+pub mod Numbers
+pub mod Limits
 pub mod SerialOrder
+pub mod NamedRuns

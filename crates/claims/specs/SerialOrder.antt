@@ -69,3 +69,7 @@ module _ (P : Placement) (steps : List RawStep) where
     pub copies : (x i : ℕ) → copy P x i ≡ true → (rest : List ℕ) × (filter (updates x) order ≡ filter (updates x) (appliedOn i) ++ rest)
     -- And its value is exactly what they make of zero: "its value is the one in the store's table of copies".
     pub copy-values : (x i : ℕ) → copy P x i ≡ true → table i x ≡ madeOfZero (filter (updates x) (appliedOn i))
+
+  -- "one serial order explains the run": the claim
+  abbrev pub Explained : List Answer → (ℕ → ℕ → ℕ) → Type 0
+  Explained answers table = (order : List ℕ) × SerialOrder answers table order

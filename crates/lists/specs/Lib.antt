@@ -13,3 +13,4 @@ pub mod Maps
 pub mod Keys
 pub mod Sorting
 pub mod Counts
+pub mod Counting

@@ -1,7 +1,7 @@
 -- A list given by what stands at each place: an array's first n elements, or n elements of a ring of slots from a head on.
 use Prim.Native.Nat.{ℕ, zero, suc, _+_, _%_, _<_}
-use mathlib.Core.Path.{_≡_, refl, ap, ap₂, _∙_}
-use mathlib.Core.List.{List, [], _∷_, _++_, map}
+use mathlib.Core.Path.{_≡_, refl, sym, ap, ap₂, _∙_}
+use mathlib.Core.List.{List, [], _∷_, _++_, map, append-assoc, append-nil}
 use native.Mathlib.Omega.{arith}
 use lib.ListN.{length, length-append, getD}
 use lib.Seq.{getD-append-add}
@@ -59,3 +59,14 @@ map-listing h f (suc n) = map-snoc (listing f n) ∙ ap (λ l. l ++ (h (f n) ∷
     map-snoc : (l : List _) → map h (l ++ (f n ∷ [])) ≡ map h l ++ (h (f n) ∷ [])
     map-snoc [] = refl
     map-snoc (x ∷ l) = ap (h x ∷_) (map-snoc l)
+
+-- m elements, then n more
+pub listing-add {ℓ} : {A : Type ℓ} (f : ℕ → A) (m n : ℕ) → listing f (m + n) ≡ listing f m ++ listing (λ k. f (m + k)) n
+listing-add f m zero = let e : m + 0 ≡ m = omega arith in ap (listing f) e ∙ sym (ap (λ l. listing f m ++ l) (listing-zero _) ∙ append-nil (listing f m))
+listing-add f m (suc n) =
+    let e : m + suc n ≡ suc (m + n) = omega arith in
+    ap (listing f) e
+    ∙ listing-snoc f (m + n)
+    ∙ ap (λ l. l ++ (f (m + n) ∷ [])) (listing-add f m n)
+    ∙ append-assoc (listing f m) (listing (λ k. f (m + k)) n) (f (m + n) ∷ [])
+    ∙ ap (λ l. listing f m ++ l) (sym (listing-snoc (λ k. f (m + k)) n))

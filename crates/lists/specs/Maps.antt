@@ -1,25 +1,18 @@
 -- Lists and queues under a map; maps that agree on a list.
-use Prim.Native.Nat.{ℕ, suc}
+use Prim.Native.Nat.{zero, suc}
 use mathlib.Core.Path.{_≡_, refl, ap, ap₂, _∙_}
 use mathlib.Core.Bool.{Bool, true, false}
-use mathlib.Core.List.{List, [], _∷_, _++_, map}
-use mathlib.Core.Option.{Option, none, some, Option·map}
+use mathlib.Core.List.{List, [], _∷_, map, map-append}
+use mathlib.Core.Option.{Option, none, some, Option·map, Option·none-ne-some, Option·some-injective}
+use native.Mathlib.Omega.{arith}
 use lib.ListN.{length}
 use Rattle.lists.specs.Histories.{In, here, there}
 use Rattle.lists.specs.Queues.{push, pop}
 use Rattle.lists.specs.Filters.{keep, filter}
 
 module _ {A B : Type 0} (h : A → B) where
-  pub map-length : (l : List A) → length (map h l) ≡ length l
-  map-length [] = refl
-  map-length (a ∷ l) = ap suc (map-length l)
-
-  pub map-append : (l r : List A) → map h (l ++ r) ≡ map h l ++ map h r
-  map-append [] r = refl
-  map-append (a ∷ l) r = ap (λ k. h a ∷ k) (map-append l r)
-
   pub map-push : (t : Bool) (a : A) (l : List A) → map h (push t a l) ≡ push t (h a) (map h l)
-  map-push true a l = map-append l (a ∷ [])
+  map-push true a l = map-append h l (a ∷ [])
   map-push false a l = refl
 
   pub map-pop : (t : Bool) (l : List A) → map h (pop t l) ≡ pop t (map h l)
@@ -35,6 +28,19 @@ module _ {A B : Type 0} (h : A → B) where
       go : (t : Bool) → length (filter q (map h l)) ≡ length (filter p l) → length (keep t (h a) (filter q (map h l))) ≡ length (keep t a (filter p l))
       go true r = ap suc r
       go false r = r
+
+  -- the head of a mapped list
+  pub map-head : (l : List A) (b : B) (r : List B) → map h l ≡ b ∷ r → (a : A) × (t : List A) × (l ≡ a ∷ t) × (h a ≡ b)
+  map-head [] b r e = let z : zero ≡ suc (length r) = ap length e in absurd (omega arith)
+  map-head (a ∷ l) b r e = (a, l, refl, ap (λ z. first z) e)
+    where
+      first : List B → B
+      first [] = b
+      first (x ∷ z) = x
+
+  pub map-some : (o : Option A) (b : B) → Option·map h o ≡ some b → (a : A) × (o ≡ some a) × (h a ≡ b)
+  map-some none b e = absurd (Option·none-ne-some b e)
+  map-some (some a) b e = (a, refl, Option·some-injective (h a) b e)
 
 module _ {A B : Type 0} (h k : A → B) where
   pub map-agree : (l : List A) → ((a : A) → In a l → h a ≡ k a) → map h l ≡ map k l

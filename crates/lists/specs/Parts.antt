@@ -5,7 +5,7 @@ use mathlib.Core.List.{List, [], _∷_, _++_}
 use native.Mathlib.Omega.{arith}
 use native.Mathlib.Nat.{add-suc}
 use lib.ListN.{length, getD, set, take, drop, length-take, length-drop, drop-of-length-le, List·getD-eq-default, take-append-drop}
-use lib.Seq.{take-all, getD-take, getD-drop, take-set-le, drop-set-add, sets, sets-eq, take-at, drop-at}
+use lib.Seq.{take-all, drop-drop, getD-take, getD-drop, take-set-le, drop-set-add, sets, sets-eq, take-at, drop-at}
 
 -- n elements from place a on, fewer where the list ends before
 abbrev pub part {ℓ} : {A : Type ℓ} → List A → ℕ → ℕ → List A
@@ -26,6 +26,10 @@ part-past s a n i d h = let e = part-length s a n in List·getD-eq-default (part
 
 pub part-short {ℓ} : {A : Type ℓ} (s : List A) (a n i : ℕ) (d : A) → length s ≤ a + i → getD (part s a n) i d ≡ d
 part-short s a n i d h = let e = part-length s a n in List·getD-eq-default (part s a n) d (omega arith)
+
+-- the rest from a place on: a part, and the rest after it
+pub part-split {ℓ} : {A : Type ℓ} (s : List A) (a n : ℕ) → drop a s ≡ part s a n ++ drop (a + n) s
+part-split s a n = sym (take-append-drop n (drop a s)) ∙ ap (λ r. part s a n ++ r) (drop-drop n a s)
 
 pub tail-part {ℓ} : {A : Type ℓ} (a : ℕ) (ys : List A) → take (length ys - a) (drop a ys) ≡ drop a ys
 tail-part a ys = take-all (length ys - a) (drop a ys) (omega (arith, length-drop a ys))

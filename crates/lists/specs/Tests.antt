@@ -33,6 +33,10 @@ bool false = inr refl
 pub clash : {b : Bool} → b ≡ true → b ≡ false → ⊥
 clash p q = true≢false (sym p ∙ q)
 
+pub false-of : (b : Bool) → (b ≡ true → ⊥) → b ≡ false
+false-of true n = absurd (n refl)
+false-of false n = refl
+
 -- what holds of one of two, by the test that picks it
 pub cond-cases : {A : Type 0} (Q : A → Type 0) (b : Bool) (x y : A) → Q (cond b x y) → ((b ≡ true) × Q x) ⊎ ((b ≡ false) × Q y)
 cond-cases Q true x y h = inl (refl, h)

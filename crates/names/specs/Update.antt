@@ -3,7 +3,7 @@
 use Prim.Native.Nat.{ℕ, _+_, _%_, max}
 use mathlib.Core.Bool.{cond}
 use lib.Bits.{bitOr}
-use lib.Dec.{eqb, ltb}
+use lib.Dec.{eqb}
 
 unfoldable pub sumOf : ℕ → ℕ → ℕ
 sumOf v w = (v + w) % 4294967296

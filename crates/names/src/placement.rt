@@ -2,9 +2,8 @@
 ghost use mathlib.Core.Path.{_≡_};
 ghost use Prim.Native.Nat.{_^_, _<_};
 ghost use lib.Dec.{ltb};
-ghost use lib.ListN.{getD, length};
-ghost use Rattle.lists.specs.Every.{each};
-ghost use Rattle.names.specs.Placement.{placement, sizesInRange, homePlaced, registerPlaced, homesPlaced, registersPlaced, sized, placed, placementRefusal};
+ghost use lib.ListN.{getD};
+ghost use Rattle.names.specs.Placement.{placement, sizesInRange, registerPlaced, homesPlaced, registersPlaced, placed, placementRefusal};
 use crate::Card;
 
 // The byte at i, and 0 past the end.

@@ -10,3 +10,4 @@ pub mod KeyOrder
 pub mod Serial
 pub mod Values
 pub mod Fresh
+pub mod Mistakes

@@ -1,6 +1,6 @@
 -- What stands behind a message in an outbox, dispatched or delivered.
 use Prim.Native.Nat.{ℕ}
-use borrow.Author.Tests.{eqb-true}
+use borrow.Author.Tests.{not-true, eqb-true}
 use lib.Dec.{eqb}
 use mathlib.Core.Bool.{Bool, _&&_, cond, false, false≢true, not, true}
 use mathlib.Core.List.{List, [], _∷_}
@@ -23,10 +23,6 @@ module _ (W : World) where
   sent-on : (e : Event) (E : List Event) (m : Msg) → Sent E m → Sent (e ∷ E) m
   sent-on e E (ask k) h = there h
   sent-on e E (reply k) h = (there (h .0), h .1)
-
-  not-true : (b : Bool) → not b ≡ true → b ≡ false
-  not-true true e = absurd (false≢true e)
-  not-true false e = refl
 
   -- a card that answers is the site, and an update's home has no copy
   pub answer : (k i : ℕ) → to W (ask k) i ≡ true → answers W k i ≡ true → (i ≡ site W k) × (W .upd k ≡ true → W .copy (W .reg k) (base W k) ≡ false)

@@ -1,20 +1,17 @@
 -- Answers put one by one into an output make the answer file.
 use Prim.Native.Nat.{ℕ, zero, suc, _+_, _-_, _*_, _≤_, _<_}
-use mathlib.Core.Path.{_≡_, refl, sym, ap, ap₂, _∙_}
-use mathlib.Core.List.{List, [], _∷_, _++_, map, append-assoc, append-nil}
+use mathlib.Core.Path.{_≡_, sym, ap, ap₂, _∙_}
+use mathlib.Core.List.{List, [], _∷_, _++_, map, append-assoc}
 use native.Mathlib.Omega.{arith}
-use lib.ListN.{length, getD, set, take, drop, length-append, length-drop, take-append-drop}
+use lib.ListN.{length, getD, set, drop, length-append, length-drop, take-append-drop}
 use lib.Seq.{drop-cons, drop-drop, drop-length, set-at, sets, sets-eq}
 use Rattle.lists.specs.Parts.{part, part-whole, sets-at-seam}
 use Rattle.lists.specs.Listings.{listing, listing-zero, listing-snoc, listing-length, map-listing}
-use Rattle.lists.specs.Loops.{turns, turns-zero, turns-suc}
+use Rattle.lists.specs.Loops.{turns-zero, turns-suc}
 use Rattle.names.specs.declared.Answer.{Answer}
 use Rattle.runfile.specs.RunFile.{twoBytes, joined}
+use Rattle.runfile.proofs.Joined.{joined-snoc}
 use Rattle.runfile.specs.AnswerFile.{fourBytes, answerBytes, answered, wordStored, headed, putAnswer, putAnswers}
-
-joined-snoc : (l : List (List ℕ)) (x : List ℕ) → joined (l ++ (x ∷ [])) ≡ joined l ++ x
-joined-snoc [] x = append-nil x
-joined-snoc (y ∷ l) x = ap (λ r. y ++ r) (joined-snoc l x) ∙ sym (append-assoc y (joined l) x)
 
 regroup : (p : List ℕ) (r : ℕ) (d v f t : List ℕ) → ((p ++ (r ∷ d)) ++ v) ++ (f ++ t) ≡ (p ++ (r ∷ [])) ++ (d ++ ((v ++ f) ++ t))
 regroup p r d v f t = simp append-assoc

@@ -1,1 +1,3 @@
+pub mod Joined
 pub mod AnswerLaws
+pub mod RunFileLaws

@@ -4,7 +4,7 @@ ghost use Prim.Native.Nat.{_+_, _≤_, _<_};
 ghost use lib.ListN.{getD, length};
 ghost use Rattle.lists.specs.Parts.{part};
 ghost use Rattle.names.specs.Placement.{home, holders, primary, placed};
-ghost use Rattle.runfile.specs.RunFile.{cardsIn, registersIn, tasksIn, stepsIn, copiesAt, primariesAt, codesAt, argumentsAt, fileLength, placementIn, codeIn, argumentIn, sizesIn, sizesSound, fileRefusal, judgementOf};
+ghost use Rattle.runfile.specs.RunFile.{stepsIn, copiesAt, primariesAt, codesAt, argumentsAt, fileLength, placementIn, codeIn, argumentIn, sizesIn, sizesSound, fileRefusal, judgementOf};
 use names::Card;
 use names::Register;
 use names::Task;

@@ -23,7 +23,7 @@ use Rattle.channel.specs.declared.Received.the-variants.{Got, Empty}
 use Rattle.channel.specs.Inbox.{receiveAnswer, receiveMemory}
 use Rattle.channel.specs.Answers.{receivedNumber}
 use Rattle.channel.specs.MemoryCalls.{receiveCall, callNumber, callMemory, handedUp}
-use Rattle.channel.proofs.Facts.{cards-most}
+use Rattle.channel.proofs.SizedFacts.{cards-most}
 use Rattle.channel.proofs.Offered.{Fits, fits-is, hands, head-fits}
 use Rattle.claims.specs.Command.{deliver}
 use Rattle.claims.specs.Steps.{good}

@@ -13,7 +13,7 @@ use Rattle.names.specs.declared.Register.{Register}
 use Rattle.names.specs.Placement.{Placement}
 use Rattle.channel.specs.Refusals.{otherwise}
 use Rattle.channel.specs.Layout.{cardsOf, tasksOf, registersOf}
-use Rattle.channel.proofs.Facts.{cards-most, tasks-most}
+use Rattle.channel.proofs.SizedFacts.{cards-most, tasks-most}
 use Rattle.channel.proofs.Offered.{registers-most}
 use Rattle.claims.specs.Command.{request-read, request-update, report}
 use Rattle.claims.specs.Steps.{good}

@@ -25,8 +25,8 @@ use Rattle.channel.specs.TakeBroadcast.{takeAnswer, takeMemory}
 use Rattle.channel.specs.TakeSingle.{singleAnswer, singleMemory}
 use Rattle.channel.specs.Sized.{wellSized}
 use Rattle.channel.specs.MemoryCalls.{Call, dispatchCall, takeBroadcastCall, takeSingleCall, callNumber, callMemory, actionOf, absent, unfit, SameSizes}
-use Rattle.channel.proofs.Facts.{cards-most, tasks-most}
-use Rattle.channel.proofs.Fitting.{same-cards, same-tasks, fits-same}
+use Rattle.channel.proofs.SizedFacts.{cards-most, tasks-most}
+use Rattle.channel.proofs.WellSizedParts.{same-cards, same-tasks, fits-same}
 use Rattle.channel.proofs.Offered.{registers-most, same-registers}
 use Rattle.claims.specs.Command.{dispatch, takeBroadcast, takeSingle}
 use Rattle.claims.specs.Steps.{good}

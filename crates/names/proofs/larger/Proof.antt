@@ -3,15 +3,11 @@ use Rattle.lists.specs.Tests.{cases}
 use Rattle.names.specs.Update.{largerOf}
 use Rattle.names.proofs.larger.Statement.{statement}
 use Rattle.names.proofs.larger.Tie as tie
-use Rattle.names.proofs.larger.Reads as reads
-use Rattle.names.proofs.larger.Lts as lts
 
--- src/lib.rt:68:9
 returns : tie.Need-returns
 unfolding largerOf
 returns c = search (needs, cases)
 
--- src/lib.rt:64:1
 returns-2 : tie.Need-returns-2
 unfolding largerOf
 returns-2 c = search (needs, cases)

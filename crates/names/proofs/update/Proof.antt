@@ -3,40 +3,29 @@ use Rattle.names.specs.Update.{updated}
 use borrow.Author.Needs.{needs}
 use Rattle.names.proofs.update.Statement.{statement}
 use Rattle.names.proofs.update.Tie as tie
-use Rattle.names.proofs.update.Reads as reads
-use Rattle.names.proofs.update.Lts as lts
-use Rattle.names.proofs.larger.Reads as larger-reads
-use Rattle.names.proofs.sum.Reads as sum-reads
 
--- src/lib.rt:79:14
 sum-requires : tie.Need-sum-requires
 sum-requires c κs = search needs
 
--- src/lib.rt:80:14
 larger-requires : tie.Need-larger-requires
 larger-requires c κs = search needs
 
--- src/lib.rt:74:1
 returns : tie.Need-returns
 unfolding updated
 returns c = search (needs, cases)
 
--- src/lib.rt:74:1
 returns-2 : tie.Need-returns-2
 unfolding updated
 returns-2 c = rw (c .before .match .keys2) (c .sum .ensures)
 
--- src/lib.rt:74:1
 returns-3 : tie.Need-returns-3
 unfolding updated
 returns-3 c = rw (c .before .match .keys3) (c .larger .ensures)
 
--- src/lib.rt:74:1
 returns-4 : tie.Need-returns-4
 unfolding updated
 returns-4 c = rw (c .match .keys4)
 
--- src/lib.rt:74:1
 returns-5 : tie.Need-returns-5
 unfolding updated
 returns-5 c = search (needs, cases)

@@ -1,39 +1,28 @@
 use mathlib.Core.Path.{sym, _∙_}
 use native.Mathlib.Omega.{arith}
-use Rattle.lists.specs.Tests.{cases}
-use Rattle.lists.specs.Parts.{part, part-past, part-short, part-at}
+use Rattle.lists.specs.Parts.{part-past, part-short, part-at}
 use borrow.Author.Needs.{needs}
 use Rattle.runfile.proofs.part_byte.Statement.{statement}
 use Rattle.runfile.proofs.part_byte.Tie as tie
-use Rattle.runfile.proofs.part_byte.Reads as reads
-use Rattle.runfile.proofs.part_byte.Lts as lts
-use Rattle.names.proofs.placement.byte.Reads as byte-reads
 
--- src/lib.rt:37:9
 returns : tie.Need-returns
 returns c = (sym (part-past (c .before .before .args .file .now) (c .before .before .args .start) (c .before .before .args .count) (c .before .before .args .i) 0 (c .if1 .taken)), omega arith)
 
--- src/lib.rt:40:9
 returns-2 : tie.Need-returns-2
 returns-2 c = (sym (part-short (c .before .before .before .args .file .now) (c .before .before .before .args .start) (c .before .before .before .args .count) (c .before .before .before .args .i) 0 (omega arith)), omega arith)
 
--- src/lib.rt:42:8
 sub-if3 : tie.Need-sub-if3
 sub-if3 c = search needs
 
--- src/lib.rt:43:9
 returns-3 : tie.Need-returns-3
 returns-3 c = (sym (part-short (c .before .before .before .before .args .file .now) (c .before .before .before .before .args .start) (c .before .before .before .before .args .count) (c .before .before .before .before .args .i) 0 (omega arith)), omega arith)
 
--- src/lib.rt:45:34
 add-byte : tie.Need-add-byte
 add-byte c = search needs
 
--- src/lib.rt:45:5
 byte-requires : tie.Need-byte-requires
 byte-requires c κs = search needs
 
--- src/lib.rt:33:1
 returns-4 : tie.Need-returns-4
 returns-4 c = (c .byte .ensures .0 ∙ sym (part-at (c .before .before .before .before .before .args .file .now) (c .before .before .before .before .before .args .start) (c .before .before .before .before .before .args .count) (c .before .before .before .before .before .args .i) 0 (c .before .before .before .if1 .left)), c .byte .ensures .1)
 

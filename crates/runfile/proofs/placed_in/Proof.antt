@@ -1,88 +1,62 @@
 use mathlib.Core.Path.{_≡_}
 use Prim.Native.Nat.{_-_}
-use Rattle.runfile.specs.RunFile.{tasksIn, registersIn}
+use Rattle.runfile.specs.RunFile.{tasksIn, registersIn, copiesAt, primariesAt, codesAt, placementIn}
 use native.Mathlib.Omega.{arith}
-use Rattle.runfile.specs.RunFile.{copiesAt, primariesAt, codesAt}
-use Rattle.lists.specs.Tests.{cases}
-use Rattle.names.specs.Placement.{placed}
-use Rattle.runfile.specs.RunFile.{placementIn}
 use borrow.Author.Needs.{needs}
 use Rattle.runfile.proofs.placed_in.Statement.{statement}
 use Rattle.runfile.proofs.placed_in.Tie as tie
-use Rattle.runfile.proofs.placed_in.Reads as reads
-use Rattle.runfile.proofs.placed_in.Lts as lts
-use Rattle.names.proofs.placement.byte.Reads as byte-reads
-use Rattle.names.proofs.placement.is_placed.Reads as is-placed-reads
-use Rattle.runfile.proofs.codes_at.Reads as codes-at-reads
-use Rattle.runfile.proofs.copies_at.Reads as copies-at-reads
-use Rattle.runfile.proofs.primaries_at.Reads as primaries-at-reads
 
--- src/lib.rt:173:9
 byte-requires : tie.Need-byte-requires
 byte-requires c κs = search needs
 
--- src/lib.rt:174:9
 copies-at-requires : tie.Need-copies-at-requires
 copies-at-requires c κs = search needs
 
--- src/lib.rt:175:9
 primaries-at-requires : tie.Need-primaries-at-requires
 primaries-at-requires c κs = search needs
 
--- src/lib.rt:176:9
 codes-at-requires : tie.Need-codes-at-requires
 codes-at-requires c κs = search needs
 
--- src/lib.rt:177:40
 sub-is-placed : tie.Need-sub-is-placed
 unfolding copiesAt primariesAt codesAt
 sub-is-placed c = omega (arith, c .before .before .copies-at .ensures .0, c .before .primaries-at .ensures .0, c .codes-at .ensures .0, c .before .before .before .before .before .pre)
 
--- src/lib.rt:177:40
 part-is-placed-start : tie.Need-part-is-placed-start
 unfolding copiesAt primariesAt codesAt
 part-is-placed-start c = omega (arith, c .before .before .copies-at .ensures .0, c .before .primaries-at .ensures .0, c .codes-at .ensures .0, c .before .before .before .before .before .pre)
 
--- src/lib.rt:177:40
 part-is-placed-end : tie.Need-part-is-placed-end
 unfolding copiesAt primariesAt codesAt
 part-is-placed-end c = omega (arith, c .before .before .copies-at .ensures .0, c .before .primaries-at .ensures .0, c .codes-at .ensures .0, c .before .before .before .before .before .pre)
 
--- src/lib.rt:177:53
 sub-is-placed-2 : tie.Need-sub-is-placed-2
 unfolding copiesAt primariesAt codesAt
 sub-is-placed-2 c = omega (arith, c .before .before .before .copies-at .ensures .0, c .before .before .primaries-at .ensures .0, c .before .codes-at .ensures .0, c .before .before .before .before .before .before .pre)
 
--- src/lib.rt:177:53
 part-is-placed-start-2 : tie.Need-part-is-placed-start-2
 unfolding copiesAt primariesAt codesAt
 part-is-placed-start-2 c = omega (arith, c .before .before .before .copies-at .ensures .0, c .before .before .primaries-at .ensures .0, c .before .codes-at .ensures .0, c .before .before .before .before .before .before .pre)
 
--- src/lib.rt:177:53
 part-is-placed-end-2 : tie.Need-part-is-placed-end-2
 unfolding copiesAt primariesAt codesAt
 part-is-placed-end-2 c = omega (arith, c .before .before .before .copies-at .ensures .0, c .before .before .primaries-at .ensures .0, c .before .codes-at .ensures .0, c .before .before .before .before .before .before .pre)
 
--- src/lib.rt:177:66
 sub-is-placed-3 : tie.Need-sub-is-placed-3
 unfolding copiesAt primariesAt codesAt
 sub-is-placed-3 c = omega (arith, c .before .before .before .before .copies-at .ensures .0, c .before .before .before .primaries-at .ensures .0, c .before .before .codes-at .ensures .0, c .before .before .before .before .before .before .before .pre)
 
--- src/lib.rt:177:66
 part-is-placed-start-3 : tie.Need-part-is-placed-start-3
 unfolding copiesAt primariesAt codesAt
 part-is-placed-start-3 c = omega (arith, c .before .before .before .before .copies-at .ensures .0, c .before .before .before .primaries-at .ensures .0, c .before .before .codes-at .ensures .0, c .before .before .before .before .before .before .before .pre)
 
--- src/lib.rt:177:66
 part-is-placed-end-3 : tie.Need-part-is-placed-end-3
 unfolding copiesAt primariesAt codesAt
 part-is-placed-end-3 c = omega (arith, c .before .before .before .before .copies-at .ensures .0, c .before .before .before .primaries-at .ensures .0, c .before .before .codes-at .ensures .0, c .before .before .before .before .before .before .before .pre)
 
--- src/lib.rt:177:5
 is-placed-requires : tie.Need-is-placed-requires
 is-placed-requires c κs = search needs
 
--- src/lib.rt:169:1
 returns : tie.Need-returns
 unfolding placementIn copiesAt primariesAt codesAt
 returns c = let s = c .before .before .before .before .before .before .before .before .before .args .file .now in

@@ -1,57 +1,41 @@
 use mathlib.Core.Path.{sym, _∙_}
 use borrow.Author.Tests.{not-true, not-false, lt-ltb, le-ltb}
 use native.Mathlib.Omega.{arith}
-use Rattle.runfile.specs.RunFile.{fileLength, codesAt, primariesAt, copiesAt}
-use Rattle.lists.specs.Tests.{cases}
-use Rattle.runfile.specs.RunFile.{fileRefusal}
+use Rattle.runfile.specs.RunFile.{fileLength, codesAt, primariesAt, copiesAt, fileRefusal}
 use borrow.Author.Needs.{needs}
 use Rattle.runfile.proofs.refusal.Statement.{statement}
 use Rattle.runfile.proofs.refusal.Tie as tie
-use Rattle.runfile.proofs.refusal.Reads as reads
-use Rattle.runfile.proofs.refusal.Lts as lts
-use Rattle.runfile.proofs.length_asked.Reads as length-asked-reads
-use Rattle.runfile.proofs.placed_in.Reads as placed-in-reads
-use Rattle.runfile.proofs.sizes_sound.Reads as sizes-sound-reads
 
--- src/lib.rt:185:9
 returns : tie.Need-returns
 unfolding fileRefusal
 returns c = rw (lt-ltb _ _ (c .if1 .taken))
 
--- src/lib.rt:187:9
 sizes-sound-requires : tie.Need-sizes-sound-requires
 sizes-sound-requires c κs = search needs
 
--- src/lib.rt:188:9
 returns-2 : tie.Need-returns-2
 unfolding fileRefusal
 returns-2 c = rw (le-ltb _ _ (c .before .before .if1 .left), sym (c .before .sizes-sound .ensures) ∙ not-true _ (c .if2 .taken))
 
--- src/lib.rt:190:9
 length-asked-requires : tie.Need-length-asked-requires
 length-asked-requires c κs = search needs
 
--- src/lib.rt:192:9
 returns-3 : tie.Need-returns-3
 unfolding fileRefusal
 returns-3 c = rw (le-ltb _ _ (c .before .before .before .before .if1 .left), sym (c .before .before .before .sizes-sound .ensures) ∙ not-false _ (c .before .before .if2 .left), ← c .before .length-asked .ensures, lt-ltb _ _ (c .if3 .taken))
 
--- src/lib.rt:195:9
 returns-4 : tie.Need-returns-4
 unfolding fileRefusal
 returns-4 c = rw (le-ltb _ _ (c .before .before .before .before .before .if1 .left), sym (c .before .before .before .before .sizes-sound .ensures) ∙ not-false _ (c .before .before .before .if2 .left), ← c .before .before .length-asked .ensures, le-ltb _ _ (c .before .if3 .left), lt-ltb _ _ (c .if4 .taken))
 
--- src/lib.rt:197:9
 placed-in-requires : tie.Need-placed-in-requires
 unfolding fileLength codesAt primariesAt copiesAt
 placed-in-requires c κs = omega (arith, c .before .before .length-asked .ensures)
 
--- src/lib.rt:198:9
 returns-5 : tie.Need-returns-5
 unfolding fileRefusal
 returns-5 c = rw (le-ltb _ _ (c .before .before .before .before .before .before .before .if1 .left), sym (c .before .before .before .before .before .before .sizes-sound .ensures) ∙ not-false _ (c .before .before .before .before .before .if2 .left), ← c .before .before .before .before .length-asked .ensures, le-ltb _ _ (c .before .before .before .if3 .left), le-ltb _ _ (c .before .before .if4 .left), sym (c .before .placed-in .ensures) ∙ not-true _ (c .if5 .taken))
 
--- src/lib.rt:181:1
 returns-6 : tie.Need-returns-6
 unfolding fileRefusal
 returns-6 c = rw (le-ltb _ _ (c .before .before .before .before .before .before .before .if1 .left), sym (c .before .before .before .before .before .before .sizes-sound .ensures) ∙ not-false _ (c .before .before .before .before .before .if2 .left), ← c .before .before .before .before .length-asked .ensures, le-ltb _ _ (c .before .before .before .if3 .left), le-ltb _ _ (c .before .before .if4 .left), sym (c .before .placed-in .ensures) ∙ not-false _ (c .if5 .left))

@@ -2,48 +2,32 @@ use mathlib.Core.Path.{_≡_, sym, _∙_}
 use mathlib.Core.Bool.{true, false}
 use borrow.Author.Tests.{not-true, not-false}
 use Rattle.names.specs.Placement.{sizesInRange}
-use Rattle.runfile.specs.RunFile.{cardsIn, registersIn, tasksIn}
-use Rattle.lists.specs.Tests.{cases}
-use Rattle.runfile.specs.RunFile.{sizesSound}
+use Rattle.runfile.specs.RunFile.{cardsIn, registersIn, tasksIn, sizesSound}
 use borrow.Author.Needs.{needs}
 use Rattle.runfile.proofs.sizes_sound.Statement.{statement}
 use Rattle.runfile.proofs.sizes_sound.Tie as tie
-use Rattle.runfile.proofs.sizes_sound.Reads as reads
-use Rattle.runfile.proofs.sizes_sound.Lts as lts
-use Rattle.names.proofs.placement.byte.Reads as byte-reads
-use Rattle.names.proofs.placement.sizes_in_range.Reads as sizes-in-range-reads
-use Rattle.runfile.proofs.steps.Reads as steps-reads
-use Rattle.runfile.proofs.wide.Reads as wide-reads
 
--- src/lib.rt:159:22
 byte-requires : tie.Need-byte-requires
 byte-requires c κs = search needs
 
--- src/lib.rt:159:9
 wide-requires : tie.Need-wide-requires
 wide-requires c κs = search needs
 
--- src/lib.rt:160:26
 byte-requires-2 : tie.Need-byte-requires-2
 byte-requires-2 c κs = search needs
 
--- src/lib.rt:160:9
 wide-requires-2 : tie.Need-wide-requires-2
 wide-requires-2 c κs = search needs
 
--- src/lib.rt:161:22
 byte-requires-3 : tie.Need-byte-requires-3
 byte-requires-3 c κs = search needs
 
--- src/lib.rt:161:9
 wide-requires-3 : tie.Need-wide-requires-3
 wide-requires-3 c κs = search needs
 
--- src/lib.rt:162:9
 sizes-in-range-requires : tie.Need-sizes-in-range-requires
 sizes-in-range-requires c κs = search needs
 
--- src/lib.rt:163:9
 returns : tie.Need-returns
 unfolding sizesSound
 returns c = let s = c .before .before .before .before .before .before .before .before .before .args .file .now in
@@ -51,11 +35,9 @@ returns c = let s = c .before .before .before .before .before .before .before .b
     rw (c .before .before .before .before .before .before .wide .ensures .0, c .before .before .before .before .before .before .before .byte .ensures .0, c .before .before .before .before .wide2 .ensures .0, c .before .before .before .before .before .byte2 .ensures .0, c .before .before .wide3 .ensures .0, c .before .before .before .byte3 .ensures .0) at (sym (c .before .sizes-in-range .ensures) ∙ not-true _ (c .if1 .taken)) in
     rw e
 
--- src/lib.rt:165:5
 steps-requires : tie.Need-steps-requires
 steps-requires c κs = search needs
 
--- src/lib.rt:156:1
 returns-2 : tie.Need-returns-2
 unfolding sizesSound
 returns-2 c = let s = c .before .before .before .before .before .before .before .before .before .before .args .file .now in

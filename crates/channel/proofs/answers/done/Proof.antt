@@ -1,10 +1,8 @@
-use Rattle.channel.specs.Answers.{isDone}
-use Rattle.lists.specs.Tests.{cases}
 use borrow.Author.Needs.{needs}
+use Rattle.lists.specs.Tests.{cases}
+use Rattle.channel.specs.Answers.{isDone}
 use Rattle.channel.proofs.answers.done.Statement.{statement}
 use Rattle.channel.proofs.answers.done.Tie as tie
-use Rattle.channel.proofs.answers.done.Reads as reads
-use Rattle.channel.proofs.answers.done.Lts as lts
 
 enum-told : tie.Need-enum-told
 enum-told c = search needs

@@ -1,16 +1,11 @@
-use borrow.Author.Needs.{needs}
 use Prim.Native.Nat.{_+_, _-_, _≤_}
-use Rattle.channel.specs.TakeBroadcast.{broadcastAt, broadcastsOf}
-use Rattle.lists.specs.Loops.{total, total-zero, total-more}
-use Rattle.lists.specs.Tests.{cases}
 use mathlib.Core.Path.{_∙_, _≡_, ap₂, sym}
 use native.Mathlib.Omega.{arith}
+use borrow.Author.Needs.{needs}
+use Rattle.lists.specs.Loops.{total, total-zero, total-more}
+use Rattle.channel.specs.TakeBroadcast.{broadcastAt, broadcastsOf}
 use Rattle.channel.proofs.broadcast.broadcasts.Statement.{statement}
 use Rattle.channel.proofs.broadcast.broadcasts.Tie as tie
-use Rattle.channel.proofs.broadcast.broadcasts.Reads as reads
-use Rattle.channel.proofs.broadcast.broadcasts.Lts as lts
-use Rattle.channel.proofs.broadcast.broadcast_at.Reads as broadcast-at-reads
-use Rattle.channel.proofs.layout.capped.Reads as capped-reads
 
 abbrev Inv-loop : tie.InvT-loop
 Inv-loop memory i most count₀ k₀ count k = (k ≤ most) × (count ≤ k) × (count ≡ total (broadcastAt memory i) k)

@@ -1,15 +1,15 @@
+use Prim.Native.Nat.{ℕ, _≤_, _<_, min}
+use mathlib.Core.Bool.{Bool, true, false, cond}
+use mathlib.Core.List.{List}
 use mathlib.Core.Path.{sym}
+use native.Mathlib.Omega.{arith}
+use borrow.Author.Needs.{needs}
+use borrow.Author.Tests.{lt-leb}
+use Rattle.lists.specs.Loops.{total-most}
+use Rattle.channel.specs.Layout.{countOf, placeOf}
 use Rattle.names.specs.CardSet.{several}
 use Rattle.names.specs.Letters.{letterAt}
 use Rattle.channel.specs.TakeBroadcast.{broadcastAt, broadcastsOf}
-use Rattle.channel.specs.Layout.{countOf, placeOf}
-use Rattle.lists.specs.Loops.{total-most}
-use borrow.Author.Tests.{lt-leb}
-use native.Mathlib.Omega.{arith}
-use mathlib.Core.List.{List}
-use mathlib.Core.Bool.{Bool, true, false, cond}
-use Prim.Native.Nat.{ℕ, _≤_, _<_, min}
-use borrow.Author.Needs.{needs}
 use Rattle.channel.proofs.broadcast.crowded.Statement.{statement}
 use Rattle.channel.proofs.broadcast.crowded.Tie as tie
 

@@ -1,6 +1,5 @@
-use Rattle.channel.specs.TakeBroadcast.{joined}
 use borrow.Author.Needs.{needs}
-use Rattle.lists.specs.Tests.{cases}
+use Rattle.channel.specs.TakeBroadcast.{joined}
 use Rattle.channel.proofs.broadcast.join.Statement.{statement}
 use Rattle.channel.proofs.broadcast.join.Tie as tie
 

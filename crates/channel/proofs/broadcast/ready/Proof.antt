@@ -1,10 +1,8 @@
-use Rattle.channel.specs.TakeBroadcast.{readyAt}
-use Rattle.lists.specs.Tests.{cases}
 use borrow.Author.Needs.{needs}
+use Rattle.lists.specs.Tests.{cases}
+use Rattle.channel.specs.TakeBroadcast.{readyAt}
 use Rattle.channel.proofs.broadcast.ready.Statement.{statement}
 use Rattle.channel.proofs.broadcast.ready.Tie as tie
-use Rattle.channel.proofs.broadcast.ready.Reads as reads
-use Rattle.channel.proofs.broadcast.ready.Lts as lts
 
 mul-at : tie.Need-mul-at
 mul-at c = search needs

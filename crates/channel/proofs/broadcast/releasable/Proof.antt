@@ -1,16 +1,11 @@
-use borrow.Author.Needs.{needs}
 use Prim.Native.Nat.{_+_, _-_, _≤_}
-use Rattle.channel.specs.TakeBroadcast.{readyAt, releasableOf}
-use Rattle.lists.specs.Loops.{total, total-zero, total-more}
-use Rattle.lists.specs.Tests.{cases}
 use mathlib.Core.Path.{_∙_, _≡_, ap₂, sym}
 use native.Mathlib.Omega.{arith}
+use borrow.Author.Needs.{needs}
+use Rattle.lists.specs.Loops.{total, total-zero, total-more}
+use Rattle.channel.specs.TakeBroadcast.{readyAt, releasableOf}
 use Rattle.channel.proofs.broadcast.releasable.Statement.{statement}
 use Rattle.channel.proofs.broadcast.releasable.Tie as tie
-use Rattle.channel.proofs.broadcast.releasable.Reads as reads
-use Rattle.channel.proofs.broadcast.releasable.Lts as lts
-use Rattle.channel.proofs.broadcast.ready.Reads as ready-reads
-use Rattle.channel.proofs.layout.capped.Reads as capped-reads
 
 abbrev Inv-loop : tie.InvT-loop
 Inv-loop memory i n held count₀ k₀ count k = (k ≤ held) × (count ≤ k) × (count ≡ total (readyAt memory i n) k)

@@ -1,15 +1,20 @@
-use borrow.Author.Needs.{needs}
-use Prim.Native.Nat.{_-_, _≤_}
-use Rattle.channel.specs.TakeBroadcast.{Sweep, releasedWords, sweeps, sweeps-more, sweeps-zero, swept}
-use Rattle.lists.specs.Tests.{cases}
-use mathlib.Core.Path.{_≡_, ap, sym}
+use Prim.Native.Nat.{ℕ, _+_, _-_, _≤_}
+use mathlib.Core.List.{List}
+use mathlib.Core.Path.{_≡_, refl}
 use native.Mathlib.Omega.{arith}
+use borrow.Author.Needs.{needs}
+use Rattle.lists.specs.Loops.{turns, turns-more}
+use Rattle.channel.specs.TakeBroadcast.{releasedWords, sweeps, swept}
 use Rattle.channel.proofs.broadcast.release.Statement.{statement}
 use Rattle.channel.proofs.broadcast.release.Tie as tie
-use Rattle.channel.proofs.broadcast.release.Reads as reads
-use Rattle.channel.proofs.broadcast.release.Lts as lts
-use Rattle.channel.proofs.broadcast.sweep.Reads as sweep-reads
-use Rattle.channel.proofs.layout.capped.Reads as capped-reads
+
+sweeps-zero : (i n : ℕ) (ws : List ℕ) → sweeps i n 0 ws ≡ record { words = ws; kept = 0 }
+unfolding sweeps turns
+sweeps-zero i n ws = refl
+
+sweeps-more : (i n k : ℕ) (ws : List ℕ) → sweeps i n (k + 1) ws ≡ swept i n k (sweeps i n k ws)
+unfolding sweeps
+sweeps-more i n k ws = turns-more (swept i n) k _
 
 abbrev Inv-loop : tie.InvT-loop
 Inv-loop memory₀ i n held kept₀ k₀ memory kept k = (k ≤ held) × (kept ≤ k) × (memory ≡ sweeps i n k memory₀ .words) × (kept ≡ sweeps i n k memory₀ .kept)

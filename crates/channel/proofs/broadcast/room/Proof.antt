@@ -1,7 +1,7 @@
-use Rattle.channel.specs.TakeBroadcast.{roomAnswer}
-use borrow.Author.Tests.{lt-ltb, le-ltb}
-use mathlib.Core.Path.{_≡_, sym, _∙_}
+use mathlib.Core.Path.{sym, _∙_}
 use borrow.Author.Needs.{needs}
+use borrow.Author.Tests.{lt-ltb, le-ltb}
+use Rattle.channel.specs.TakeBroadcast.{roomAnswer}
 use Rattle.channel.proofs.broadcast.room.Statement.{statement}
 use Rattle.channel.proofs.broadcast.room.Tie as tie
 

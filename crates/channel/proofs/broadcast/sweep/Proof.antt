@@ -1,15 +1,9 @@
-use Rattle.channel.specs.TakeBroadcast.{sweptKept, sweptWords}
-use Rattle.lists.specs.Tests.{cases}
-use borrow.Author.Tests.{eq-eqb, ne-eqb}
 use native.Mathlib.Omega.{arith}
 use borrow.Author.Needs.{needs}
+use borrow.Author.Tests.{eq-eqb, ne-eqb}
+use Rattle.channel.specs.TakeBroadcast.{sweptKept, sweptWords}
 use Rattle.channel.proofs.broadcast.sweep.Statement.{statement}
 use Rattle.channel.proofs.broadcast.sweep.Tie as tie
-use Rattle.channel.proofs.broadcast.sweep.Reads as reads
-use Rattle.channel.proofs.broadcast.sweep.Lts as lts
-use Rattle.channel.proofs.inbox.push.Reads as push-reads
-use Rattle.channel.proofs.letters.load.Reads as load-reads
-use Rattle.channel.proofs.letters.store.Reads as store-reads
 
 mul-block : tie.Need-mul-block
 mul-block c = search needs
@@ -23,17 +17,17 @@ add-block-2 c = search needs
 load-requires : tie.Need-load-requires
 load-requires c κs = search needs
 
-mul-tag : tie.Need-mul-tag
-mul-tag c = search needs
+mul-mark : tie.Need-mul-mark
+mul-mark c = search needs
 
-add-tag : tie.Need-add-tag
-add-tag c = search needs
+add-mark : tie.Need-add-mark
+add-mark c = search needs
 
-mul-tag-2 : tie.Need-mul-tag-2
-mul-tag-2 c = search needs
+mul-mark-2 : tie.Need-mul-mark-2
+mul-mark-2 c = search needs
 
-element-copy-out-tag : tie.Need-element-copy-out-tag
-element-copy-out-tag c = search needs
+element-copy-out-mark : tie.Need-element-copy-out-mark
+element-copy-out-mark c = search needs
 
 push-requires : tie.Need-push-requires
 push-requires c κs = search needs
@@ -71,10 +65,10 @@ sweep-spec =
     add-block
     add-block-2
     load-requires
-    mul-tag
-    add-tag
-    mul-tag-2
-    element-copy-out-tag
+    mul-mark
+    add-mark
+    mul-mark-2
+    element-copy-out-mark
     push-requires
     returns
     mul-store

@@ -1,9 +1,8 @@
-use Rattle.channel.specs.TakeBroadcast.{takeAnswer, takeMemory}
-use Rattle.channel.specs.Answers.{isDone}
-use borrow.Author.Tests.{lt-ltb, le-ltb}
-use mathlib.Core.Path.{_≡_, sym, _∙_}
+use mathlib.Core.Path.{sym, _∙_}
 use borrow.Author.Needs.{needs}
-use Rattle.lists.specs.Tests.{cases}
+use borrow.Author.Tests.{lt-ltb, le-ltb}
+use Rattle.channel.specs.Answers.{isDone}
+use Rattle.channel.specs.TakeBroadcast.{takeAnswer, takeMemory}
 use Rattle.channel.proofs.broadcast.take_broadcast.Statement.{statement}
 use Rattle.channel.proofs.broadcast.take_broadcast.Tie as tie
 

@@ -1,12 +1,9 @@
-use Rattle.channel.specs.Inbox.{gotOf, popped}
-use Rattle.lists.specs.Tests.{cases}
-use borrow.Author.Tests.{lt-ltb, ne-eqb}
 use borrow.Author.Needs.{needs}
+use borrow.Author.Tests.{ne-eqb}
+use Rattle.lists.specs.Tests.{cases}
+use Rattle.channel.specs.Inbox.{gotOf, popped}
 use Rattle.channel.proofs.inbox.pop.Statement.{statement}
 use Rattle.channel.proofs.inbox.pop.Tie as tie
-use Rattle.channel.proofs.inbox.pop.Reads as reads
-use Rattle.channel.proofs.inbox.pop.Lts as lts
-use Rattle.channel.proofs.letters.load.Reads as load-reads
 
 mul-at : tie.Need-mul-at
 mul-at c = search needs

@@ -1,12 +1,9 @@
-use Rattle.channel.specs.Inbox.{pushed}
-use Rattle.lists.specs.Tests.{cases}
-use borrow.Author.Tests.{lt-ltb, ne-eqb}
 use borrow.Author.Needs.{needs}
+use borrow.Author.Tests.{lt-ltb}
+use Rattle.lists.specs.Tests.{cases}
+use Rattle.channel.specs.Inbox.{pushed}
 use Rattle.channel.proofs.inbox.push.Statement.{statement}
 use Rattle.channel.proofs.inbox.push.Tie as tie
-use Rattle.channel.proofs.inbox.push.Reads as reads
-use Rattle.channel.proofs.inbox.push.Lts as lts
-use Rattle.channel.proofs.letters.store.Reads as store-reads
 
 mul-at : tie.Need-mul-at
 mul-at c = search needs

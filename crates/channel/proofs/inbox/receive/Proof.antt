@@ -1,13 +1,8 @@
+use borrow.Author.Needs.{needs}
 use borrow.Author.Tests.{lt-ltb, le-ltb}
 use Rattle.channel.specs.Inbox.{receiveAnswer, receiveMemory}
-use Rattle.lists.specs.Tests.{cases}
-use borrow.Author.Needs.{needs}
 use Rattle.channel.proofs.inbox.receive.Statement.{statement}
 use Rattle.channel.proofs.inbox.receive.Tie as tie
-use Rattle.channel.proofs.inbox.receive.Reads as reads
-use Rattle.channel.proofs.inbox.receive.Lts as lts
-use Rattle.channel.proofs.inbox.pop.Reads as pop-reads
-use Rattle.channel.proofs.layout.cards.Reads as cards-reads
 
 cards-requires : tie.Need-cards-requires
 cards-requires c κs = search needs

@@ -1,6 +1,6 @@
+use mathlib.Core.Path.{sym, _∙_}
 use borrow.Author.Needs.{needs}
 use borrow.Author.Tests.{not-true, not-false}
-use mathlib.Core.Path.{_≡_, sym, _∙_}
 use Rattle.channel.specs.Begin.{begun, beginAnswer, beginMemory}
 use Rattle.channel.proofs.layout.begin.Statement.{statement}
 use Rattle.channel.proofs.layout.begin.Tie as tie

@@ -1,11 +1,8 @@
-use Rattle.channel.specs.Layout.{cardsOf}
-use Rattle.lists.specs.Tests.{cases}
 use borrow.Author.Needs.{needs}
+use Rattle.lists.specs.Tests.{cases}
+use Rattle.channel.specs.Layout.{cardsOf}
 use Rattle.channel.proofs.layout.cards.Statement.{statement}
 use Rattle.channel.proofs.layout.cards.Tie as tie
-use Rattle.channel.proofs.layout.cards.Reads as reads
-use Rattle.channel.proofs.layout.cards.Lts as lts
-use Rattle.channel.proofs.layout.capped.Reads as capped-reads
 
 element-copy-out-capped : tie.Need-element-copy-out-capped
 element-copy-out-capped c = search needs

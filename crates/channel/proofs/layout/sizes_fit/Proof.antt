@@ -1,10 +1,8 @@
 use borrow.Author.Needs.{needs}
-use Rattle.channel.specs.Begin.{sizesFit}
 use Rattle.lists.specs.Tests.{cases}
+use Rattle.channel.specs.Begin.{sizesFit}
 use Rattle.channel.proofs.layout.sizes_fit.Statement.{statement}
 use Rattle.channel.proofs.layout.sizes_fit.Tie as tie
-use Rattle.channel.proofs.layout.sizes_fit.Reads as reads
-use Rattle.channel.proofs.layout.sizes_fit.Lts as lts
 
 returns : tie.Need-returns
 unfolding sizesFit

@@ -1,12 +1,8 @@
+use borrow.Author.Needs.{needs}
 use borrow.Author.Tests.{lt-ltb, le-ltb}
 use Rattle.channel.specs.Layout.{takenBy}
-use Rattle.lists.specs.Tests.{cases}
-use borrow.Author.Needs.{needs}
 use Rattle.channel.proofs.layout.taken.Statement.{statement}
 use Rattle.channel.proofs.layout.taken.Tie as tie
-use Rattle.channel.proofs.layout.taken.Reads as reads
-use Rattle.channel.proofs.layout.taken.Lts as lts
-use Rattle.channel.proofs.layout.cards.Reads as cards-reads
 
 cards-requires : tie.Need-cards-requires
 cards-requires c κs = search needs

@@ -1,19 +1,16 @@
-use borrow.Author.Tests.{ltb-true, ltb-false, le-leb, ne-eqb}
+use Prim.Native.Nat.{ℕ, _<_, _≤_, _/_, _^_}
+use mathlib.Core.Bool.{Bool, true, false}
+use mathlib.Core.Path.{_≡_, refl}
+use native.Mathlib.Nat.{div-eq-of-lt, le-div-iff-mul-le}
 use native.Mathlib.Omega.{arith}
 use lib.Dec.{eqb, ltb}
 use lib.Pow.{pow-pos}
-use native.Mathlib.Nat.{div-eq-of-lt, le-div-iff-mul-le}
-use mathlib.Core.Bool.{Bool, true, false}
-use mathlib.Core.Path.{_≡_, refl}
-use Prim.Native.Nat.{ℕ, _<_, _≤_, _/_, _^_}
-use Rattle.channel.specs.Letters.{addressed}
-use Rattle.lists.specs.Tests.{cases}
 use borrow.Author.Needs.{needs}
+use borrow.Author.Tests.{ltb-true, ltb-false, le-leb, ne-eqb}
+use Rattle.lists.specs.Tests.{cases}
+use Rattle.channel.specs.Letters.{addressed}
 use Rattle.channel.proofs.letters.addressed.Statement.{statement}
 use Rattle.channel.proofs.letters.addressed.Tie as tie
-use Rattle.channel.proofs.letters.addressed.Reads as reads
-use Rattle.channel.proofs.letters.addressed.Lts as lts
-use Rattle.channel.proofs.layout.cards.Reads as cards-reads
 
 -- nothing is left of x after the shift exactly when x is below m
 shifted : (x m : ℕ) → 0 < m → eqb (x / m) 0 ≡ ltb x m

@@ -1,16 +1,9 @@
-use borrow.Author.Tests.{lt-ltb, le-ltb, not-true, not-false}
-use mathlib.Core.Path.{_≡_, sym, _∙_}
-use Rattle.channel.specs.Letters.{fits}
-use Rattle.lists.specs.Tests.{cases}
+use mathlib.Core.Path.{sym, _∙_}
 use borrow.Author.Needs.{needs}
+use borrow.Author.Tests.{lt-ltb, le-ltb, not-true, not-false}
+use Rattle.channel.specs.Letters.{fits}
 use Rattle.channel.proofs.letters.fits.Statement.{statement}
 use Rattle.channel.proofs.letters.fits.Tie as tie
-use Rattle.channel.proofs.letters.fits.Reads as reads
-use Rattle.channel.proofs.letters.fits.Lts as lts
-use Rattle.channel.proofs.layout.cards.Reads as cards-reads
-use Rattle.channel.proofs.layout.registers.Reads as registers-reads
-use Rattle.channel.proofs.layout.tasks.Reads as tasks-reads
-use Rattle.channel.proofs.letters.addressed.Reads as addressed-reads
 
 tasks-requires : tie.Need-tasks-requires
 tasks-requires c κs = search needs

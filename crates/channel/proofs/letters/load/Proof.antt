@@ -1,10 +1,7 @@
-use Rattle.names.specs.Letters.{letterAt}
-use Rattle.lists.specs.Tests.{cases}
 use borrow.Author.Needs.{needs}
+use Rattle.names.specs.Letters.{letterAt}
 use Rattle.channel.proofs.letters.load.Statement.{statement}
 use Rattle.channel.proofs.letters.load.Tie as tie
-use Rattle.channel.proofs.letters.load.Reads as reads
-use Rattle.channel.proofs.letters.load.Lts as lts
 
 mul-at : tie.Need-mul-at
 mul-at c = search needs

@@ -1,10 +1,7 @@
-use Rattle.names.specs.Letters.{stored}
-use Rattle.lists.specs.Tests.{cases}
 use borrow.Author.Needs.{needs}
+use Rattle.names.specs.Letters.{stored}
 use Rattle.channel.proofs.letters.store.Statement.{statement}
 use Rattle.channel.proofs.letters.store.Tie as tie
-use Rattle.channel.proofs.letters.store.Reads as reads
-use Rattle.channel.proofs.letters.store.Lts as lts
 
 mul-at : tie.Need-mul-at
 mul-at c = search needs

@@ -1,9 +1,8 @@
-use Rattle.channel.specs.Dispatch.{castAnswer, castMemory}
-use Rattle.channel.specs.Answers.{isDone}
-use borrow.Author.Tests.{lt-ltb, le-ltb, not-true, not-false}
-use mathlib.Core.Path.{_≡_, sym, _∙_}
+use mathlib.Core.Path.{sym, _∙_}
 use borrow.Author.Needs.{needs}
-use Rattle.lists.specs.Tests.{cases}
+use borrow.Author.Tests.{lt-ltb, le-ltb, not-true, not-false}
+use Rattle.channel.specs.Answers.{isDone}
+use Rattle.channel.specs.Dispatch.{castAnswer, castMemory}
 use Rattle.channel.proofs.send.cast.Statement.{statement}
 use Rattle.channel.proofs.send.cast.Tie as tie
 

@@ -1,8 +1,7 @@
-use Rattle.channel.specs.Dispatch.{dispatchAnswer, dispatchMemory}
-use borrow.Author.Tests.{lt-ltb, le-ltb}
-use mathlib.Core.Path.{_≡_, sym, _∙_}
+use mathlib.Core.Path.{sym, _∙_}
 use borrow.Author.Needs.{needs}
-use Rattle.lists.specs.Tests.{cases}
+use borrow.Author.Tests.{lt-ltb, le-ltb}
+use Rattle.channel.specs.Dispatch.{dispatchAnswer, dispatchMemory}
 use Rattle.channel.proofs.send.dispatch.Statement.{statement}
 use Rattle.channel.proofs.send.dispatch.Tie as tie
 

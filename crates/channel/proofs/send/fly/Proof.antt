@@ -1,26 +1,19 @@
-use lib.ListN.{getD}
 use Prim.Native.Nat.{ℕ, _<_, min}
-use Rattle.channel.specs.Letters.{fits}
-use Rattle.channel.specs.Layout.{tasksOf}
-use Rattle.names.specs.declared.Letter.{Letter}
-use Rattle.lists.specs.Tests.{and-fst}
-use borrow.Author.Tests.{ltb-true, not-true, not-false}
-use native.Mathlib.Omega.{arith}
-use mathlib.Core.Path.{_≡_, sym, _∙_}
-use mathlib.Core.List.{List}
 use mathlib.Core.Bool.{true}
+use mathlib.Core.List.{List}
+use mathlib.Core.Path.{_≡_, sym, _∙_}
+use native.Mathlib.Omega.{arith}
+use lib.ListN.{getD}
+use borrow.Author.Needs.{needs}
+use borrow.Author.Tests.{ltb-true, not-true, not-false}
+use Rattle.lists.specs.Tests.{and-fst}
 use Rattle.channel.specs.Answers.{isDone}
 use Rattle.channel.specs.Dispatch.{flyAnswer, flyMemory}
-use Rattle.lists.specs.Tests.{cases}
-use borrow.Author.Tests.{eq-eqb, le-leb, le-ltb, lt-leb, lt-ltb, ne-eqb}
-use borrow.Author.Needs.{needs}
+use Rattle.channel.specs.Layout.{tasksOf}
+use Rattle.channel.specs.Letters.{fits}
+use Rattle.names.specs.declared.Letter.{Letter}
 use Rattle.channel.proofs.send.fly.Statement.{statement}
 use Rattle.channel.proofs.send.fly.Tie as tie
-use Rattle.channel.proofs.send.fly.Reads as reads
-use Rattle.channel.proofs.send.fly.Lts as lts
-use Rattle.channel.proofs.letters.fits.Reads as fits-reads
-use Rattle.channel.proofs.letters.store.Reads as store-reads
-use Rattle.channel.proofs.single.no_flight.Reads as no-flight-reads
 
 -- a letter that fits has a task's number
 fits-task : (ws : List ℕ) (l : Letter) → fits ws l ≡ true → l .message .task .0 < 16

@@ -1,19 +1,13 @@
-use Rattle.channel.specs.Dispatch.{nearAt}
-use Rattle.lists.specs.Every.{each, each-zero, each-more, each-fails}
-use borrow.Author.Tests.{not-true, not-false}
-use native.Mathlib.Omega.{arith}
+use Prim.Native.Nat.{_-_, _≤_}
 use mathlib.Core.Bool.{true}
 use mathlib.Core.Path.{_≡_, sym, _∙_}
-use Prim.Native.Nat.{_-_, _≤_}
+use native.Mathlib.Omega.{arith}
 use borrow.Author.Needs.{needs}
-use Rattle.channel.specs.Dispatch.{near}
-use Rattle.lists.specs.Tests.{cases}
+use borrow.Author.Tests.{not-true, not-false}
+use Rattle.lists.specs.Every.{each, each-zero, each-more, each-fails}
+use Rattle.channel.specs.Dispatch.{nearAt, near}
 use Rattle.channel.proofs.send.near.Statement.{statement}
 use Rattle.channel.proofs.send.near.Tie as tie
-use Rattle.channel.proofs.send.near.Reads as reads
-use Rattle.channel.proofs.send.near.Lts as lts
-use Rattle.channel.proofs.layout.cards.Reads as cards-reads
-use Rattle.channel.proofs.send.near_at.Reads as near-at-reads
 
 abbrev Inv-loop : tie.InvT-loop
 Inv-loop memory n i₀ i = (i ≤ n) × (each i (nearAt memory) ≡ true)

@@ -1,11 +1,7 @@
-use Rattle.channel.specs.Dispatch.{nearAt}
-use Rattle.lists.specs.Tests.{cases}
 use borrow.Author.Needs.{needs}
+use Rattle.channel.specs.Dispatch.{nearAt}
 use Rattle.channel.proofs.send.near_at.Statement.{statement}
 use Rattle.channel.proofs.send.near_at.Tie as tie
-use Rattle.channel.proofs.send.near_at.Reads as reads
-use Rattle.channel.proofs.send.near_at.Lts as lts
-use Rattle.channel.proofs.layout.wide.Reads as wide-reads
 
 mul-wide : tie.Need-mul-wide
 mul-wide c = search needs

@@ -1,14 +1,8 @@
-use Rattle.channel.specs.TakeSingle.{landed, heldMore}
-use Rattle.channel.specs.TakeSingle.{heldMore, landed}
-use Rattle.lists.specs.Tests.{cases}
-use borrow.Author.Tests.{le-leb, le-ltb, lt-leb, lt-ltb}
 use borrow.Author.Needs.{needs}
+use borrow.Author.Tests.{le-ltb, lt-ltb}
+use Rattle.channel.specs.TakeSingle.{landed, heldMore}
 use Rattle.channel.proofs.single.land.Statement.{statement}
 use Rattle.channel.proofs.single.land.Tie as tie
-use Rattle.channel.proofs.single.land.Reads as reads
-use Rattle.channel.proofs.single.land.Lts as lts
-use Rattle.channel.proofs.inbox.push.Reads as push-reads
-use Rattle.channel.proofs.letters.store.Reads as store-reads
 
 add-memory : tie.Need-add-memory
 add-memory c = search needs

@@ -1,11 +1,8 @@
+use borrow.Author.Needs.{needs}
 use borrow.Author.Tests.{le-leb, lt-leb}
 use Rattle.channel.specs.TakeSingle.{landAnswer}
-use Rattle.lists.specs.Tests.{cases}
-use borrow.Author.Needs.{needs}
 use Rattle.channel.proofs.single.may_land.Statement.{statement}
 use Rattle.channel.proofs.single.may_land.Tie as tie
-use Rattle.channel.proofs.single.may_land.Reads as reads
-use Rattle.channel.proofs.single.may_land.Lts as lts
 
 mul-if2 : tie.Need-mul-if2
 mul-if2 c = search needs

@@ -1,10 +1,8 @@
-use Rattle.channel.specs.TakeSingle.{noFlight}
-use Rattle.lists.specs.Tests.{cases}
 use borrow.Author.Needs.{needs}
+use Rattle.lists.specs.Tests.{cases}
+use Rattle.channel.specs.TakeSingle.{noFlight}
 use Rattle.channel.proofs.single.no_flight.Statement.{statement}
 use Rattle.channel.proofs.single.no_flight.Tie as tie
-use Rattle.channel.proofs.single.no_flight.Reads as reads
-use Rattle.channel.proofs.single.no_flight.Lts as lts
 
 add-result : tie.Need-add-result
 add-result c = search needs

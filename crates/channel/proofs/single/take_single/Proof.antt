@@ -1,26 +1,15 @@
-use Rattle.names.specs.CardSet.{single, soleOf, bitOf, sizeOf}
-use Rattle.channel.specs.TakeSingle.{joinsAt}
-use Rattle.lists.specs.Loops.{total, turns}
-use mathlib.Core.Bool.{true}
-use borrow.Author.Tests.{not-true, not-false, eqb-true}
-use native.Mathlib.Omega.{arith}
 use Prim.Native.Nat.{ℕ, _<_, _+_, _*_}
-use Rattle.channel.specs.Answers.{isDone}
-use Rattle.channel.specs.TakeSingle.{singleAnswer, singleMemory}
-use Rattle.lists.specs.Tests.{cases}
-use borrow.Author.Tests.{eq-eqb, le-leb, le-ltb, lt-leb, lt-ltb, ne-eqb}
+use mathlib.Core.Bool.{true}
 use mathlib.Core.Path.{_∙_, _≡_, subst, sym}
+use native.Mathlib.Omega.{arith}
 use borrow.Author.Needs.{needs}
+use borrow.Author.Tests.{not-true, not-false, eqb-true, le-ltb, lt-ltb}
+use Rattle.lists.specs.Loops.{total, turns}
+use Rattle.names.specs.CardSet.{bitOf, sizeOf, single, soleOf}
+use Rattle.channel.specs.Answers.{isDone}
+use Rattle.channel.specs.TakeSingle.{joinsAt, singleAnswer, singleMemory}
 use Rattle.channel.proofs.single.take_single.Statement.{statement}
 use Rattle.channel.proofs.single.take_single.Tie as tie
-use Rattle.channel.proofs.single.take_single.Reads as reads
-use Rattle.channel.proofs.single.take_single.Lts as lts
-use Rattle.channel.proofs.answers.done.Reads as done-reads
-use Rattle.channel.proofs.layout.tasks.Reads as tasks-reads
-use Rattle.channel.proofs.letters.load.Reads as load-reads
-use Rattle.channel.proofs.single.land.Reads as land-reads
-use Rattle.channel.proofs.single.may_land.Reads as may-land-reads
-use Rattle.channel.proofs.single.no_flight.Reads as no-flight-reads
 
 below : (a b c d e f g h : ℕ) → 0 + a + b + c + d + e + f + g + h ≡ 1 → 0 + 0 * a + 1 * b + 2 * c + 3 * d + 4 * e + 5 * f + 6 * g + 7 * h < 8
 below a b c d e f g h s = omega arith

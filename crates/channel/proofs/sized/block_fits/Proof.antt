@@ -1,6 +1,6 @@
-use Rattle.channel.specs.Sized.{blockFits}
-use borrow.Author.Tests.{le-leb, lt-leb}
 use borrow.Author.Needs.{needs}
+use borrow.Author.Tests.{le-leb, lt-leb}
+use Rattle.channel.specs.Sized.{blockFits}
 use Rattle.channel.proofs.sized.block_fits.Statement.{statement}
 use Rattle.channel.proofs.sized.block_fits.Tie as tie
 

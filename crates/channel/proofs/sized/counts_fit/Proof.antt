@@ -1,6 +1,6 @@
-use Rattle.channel.specs.Sized.{countsFit}
-use borrow.Author.Tests.{lt-ltb, le-ltb, le-leb, lt-leb}
 use borrow.Author.Needs.{needs}
+use borrow.Author.Tests.{lt-ltb, le-ltb, le-leb, lt-leb}
+use Rattle.channel.specs.Sized.{countsFit}
 use Rattle.channel.proofs.sized.counts_fit.Statement.{statement}
 use Rattle.channel.proofs.sized.counts_fit.Tie as tie
 

@@ -1,11 +1,11 @@
-use Rattle.channel.specs.Sized.{flightFits}
-use Rattle.lists.specs.Every.{each, each-zero, each-more, each-fails}
-use borrow.Author.Tests.{not-true, not-false}
-use native.Mathlib.Omega.{arith}
+use Prim.Native.Nat.{_-_, _≤_}
 use mathlib.Core.Bool.{true}
 use mathlib.Core.Path.{_≡_, sym, _∙_}
-use Prim.Native.Nat.{_-_, _≤_}
+use native.Mathlib.Omega.{arith}
 use borrow.Author.Needs.{needs}
+use borrow.Author.Tests.{not-true, not-false}
+use Rattle.lists.specs.Every.{each, each-zero, each-more, each-fails}
+use Rattle.channel.specs.Sized.{flightFits}
 use Rattle.channel.proofs.sized.flight_all.Statement.{statement}
 use Rattle.channel.proofs.sized.flight_all.Tie as tie
 

@@ -1,8 +1,8 @@
-use Rattle.channel.specs.Sized.{flightFits}
-use Rattle.names.specs.Letters.{letterAt}
-use borrow.Author.Tests.{not-true, not-false, eq-eqb, ne-eqb}
-use mathlib.Core.Path.{_≡_, sym, _∙_}
+use mathlib.Core.Path.{sym, _∙_}
 use borrow.Author.Needs.{needs}
+use borrow.Author.Tests.{not-true, not-false, eq-eqb, ne-eqb}
+use Rattle.names.specs.Letters.{letterAt}
+use Rattle.channel.specs.Sized.{flightFits}
 use Rattle.channel.proofs.sized.flight_fits.Statement.{statement}
 use Rattle.channel.proofs.sized.flight_fits.Tie as tie
 

@@ -1,7 +1,7 @@
-use Rattle.channel.specs.Sized.{headFits}
-use borrow.Author.Tests.{not-true, not-false}
-use mathlib.Core.Path.{_≡_, sym, _∙_}
+use mathlib.Core.Path.{sym, _∙_}
 use borrow.Author.Needs.{needs}
+use borrow.Author.Tests.{not-true, not-false}
+use Rattle.channel.specs.Sized.{headFits}
 use Rattle.channel.proofs.sized.head_fits.Statement.{statement}
 use Rattle.channel.proofs.sized.head_fits.Tie as tie
 

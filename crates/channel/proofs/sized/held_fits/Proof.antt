@@ -1,8 +1,8 @@
-use Rattle.channel.specs.Sized.{heldFits}
-use Rattle.names.specs.Letters.{letterAt}
-use borrow.Author.Tests.{not-true, not-false}
-use mathlib.Core.Path.{_≡_, sym, _∙_}
+use mathlib.Core.Path.{sym, _∙_}
 use borrow.Author.Needs.{needs}
+use borrow.Author.Tests.{not-true, not-false}
+use Rattle.names.specs.Letters.{letterAt}
+use Rattle.channel.specs.Sized.{heldFits}
 use Rattle.channel.proofs.sized.held_fits.Statement.{statement}
 use Rattle.channel.proofs.sized.held_fits.Tie as tie
 

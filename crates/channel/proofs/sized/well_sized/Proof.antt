@@ -1,6 +1,6 @@
+use mathlib.Core.Path.{sym, _∙_}
 use borrow.Author.Needs.{needs}
 use borrow.Author.Tests.{not-true, not-false}
-use mathlib.Core.Path.{_≡_, sym, _∙_}
 use Rattle.channel.specs.Sized.{wellSized}
 use Rattle.channel.proofs.sized.well_sized.Statement.{statement}
 use Rattle.channel.proofs.sized.well_sized.Tie as tie

@@ -1,26 +1,20 @@
 use mathlib.Core.Path.{sym}
-use Prim.Native.Nat.{_^_, _≤_, _<_}
+use Prim.Native.Nat.{_^_, _≤_}
 use native.Mathlib.Nat.{pow-le-pow-right}
 use native.Mathlib.Omega.{arith}
 use borrow.Author.Tests.{lt-ltb}
 use Rattle.lists.specs.Tests.{div-zero}
-use Rattle.lists.specs.Tests.{cases}
 use borrow.Author.Needs.{needs}
 use Rattle.names.proofs.placement.all_present.Statement.{statement}
 use Rattle.names.proofs.placement.all_present.Tie as tie
-use Rattle.names.proofs.placement.all_present.Reads as reads
-use Rattle.names.proofs.placement.all_present.Lts as lts
 
--- src/placement.rt:47:9
 returns : tie.Need-returns
 returns c = let big : 2 ^ 32 ≤ 2 ^ c .before .args .cards = pow-le-pow-right (omega arith) (c .if1 .taken) in
     sym (lt-ltb (c .before .args .set) (2 ^ c .before .args .cards) (omega arith))
 
--- src/placement.rt:49:6
 shr-result : tie.Need-shr-result
 shr-result c = search needs
 
--- src/placement.rt:43:1
 returns-2 : tie.Need-returns-2
 returns-2 c = let one : 2 ^ 0 ≤ 2 ^ c .before .args .cards = pow-le-pow-right (omega arith) {i = 0} (omega arith) in
     div-zero (c .before .args .set) (2 ^ c .before .args .cards) (omega arith)

@@ -1,26 +1,19 @@
 use mathlib.Core.Path.{refl, sym}
 use native.Mathlib.Omega.{arith}
 use lib.ListN.{List·getD-eq-default}
-use Rattle.lists.specs.Tests.{cases}
 use borrow.Author.Needs.{needs}
 use Rattle.names.proofs.placement.byte.Statement.{statement}
 use Rattle.names.proofs.placement.byte.Tie as tie
-use Rattle.names.proofs.placement.byte.Reads as reads
-use Rattle.names.proofs.placement.byte.Lts as lts
 
--- src/placement.rt:15:9
 returns : tie.Need-returns
 returns c = (sym (List·getD-eq-default (c .before .args .bytes .now) 0 (c .if1 .taken)), omega arith)
 
--- src/placement.rt:17:5
 shared-slice-read-result : tie.Need-shared-slice-read-result
 shared-slice-read-result c = search needs
 
--- src/placement.rt:17:5
 cast-result : tie.Need-cast-result
 cast-result c = omega (arith, c .shared-slice-known .given (c .before .before .args .i))
 
--- src/placement.rt:11:1
 returns-2 : tie.Need-returns-2
 returns-2 c = (refl, omega (arith, c .shared-slice-known .given (c .before .before .args .i)))
 

@@ -1,19 +1,14 @@
-use mathlib.Core.Path.{_≡_, refl, sym, _∙_}
+use mathlib.Core.Path.{_≡_, sym}
 use mathlib.Core.Bool.{true}
 use Prim.Native.Nat.{_≤_, _-_}
 use native.Mathlib.Omega.{arith}
 use lib.ListN.{length, getD}
 use borrow.Author.Tests.{le-ltb, lt-ltb}
 use Rattle.lists.specs.Every.{each, each-zero, each-more, each-fails}
-use Rattle.names.specs.Placement.{homePlaced}
+use Rattle.names.specs.Placement.{homePlaced, homesPlaced}
 use borrow.Author.Needs.{needs}
-use Rattle.lists.specs.Tests.{cases}
-use Rattle.names.specs.Placement.{homesPlaced}
 use Rattle.names.proofs.placement.homes_placed.Statement.{statement}
 use Rattle.names.proofs.placement.homes_placed.Tie as tie
-use Rattle.names.proofs.placement.homes_placed.Reads as reads
-use Rattle.names.proofs.placement.homes_placed.Lts as lts
-use Rattle.names.proofs.placement.byte.Reads as byte-reads
 
 abbrev Inv-loop : tie.InvT-loop
 Inv-loop cards homes c₀ c = (c ≤ length homes) × (each c (λ k. homePlaced cards (getD homes k 0)) ≡ true)
@@ -21,35 +16,28 @@ Inv-loop cards homes c₀ c = (c ≤ length homes) × (each c (λ k. homePlaced 
 abbrev μ-loop : tie.MeasureT-loop
 μ-loop cards homes c₀ c = length homes - c
 
--- src/placement.rt:70:5
 loop-holds : tie.Need-loop-holds Inv-loop μ-loop
 loop-holds c = (search needs, each-zero _)
 
--- src/placement.rt:71:21
 byte-requires : tie.Need-byte-requires Inv-loop μ-loop
 byte-requires c κs = search needs
 
--- src/placement.rt:72:13
 returns : tie.Need-returns Inv-loop μ-loop
 unfolding homesPlaced homePlaced
 returns c = let cards = c .before .before .before .before .before .args .cards in let homes = c .before .before .before .before .before .args .homes .now in let i = c .before .before .before .loop .c in
     sym (each-fails (length homes) (λ k. homePlaced cards (getD homes k 0)) i (c .before .before .loop-test .taken) (rw (← c .before .byte .ensures .0) (le-ltb _ _ (c .if1 .taken))))
 
--- src/placement.rt:74:9
 add-c : tie.Need-add-c Inv-loop μ-loop
 add-c c = search needs
 
--- src/placement.rt:70:5
 loop-less : tie.Need-loop-less Inv-loop μ-loop
 loop-less c = search needs
 
--- src/placement.rt:70:5
 loop-again : tie.Need-loop-again Inv-loop μ-loop
 unfolding homePlaced
 loop-again c = let cards = c .before .before .before .before .before .args .cards in let homes = c .before .before .before .before .before .args .homes .now in let i = c .before .before .before .loop .c in
     (search needs, each-more i (λ k. homePlaced cards (getD homes k 0)) (c .before .before .before .loop .inv .1) (rw (← c .before .byte .ensures .0) (lt-ltb _ _ (c .if1 .left))))
 
--- src/placement.rt:66:1
 returns-2 : tie.Need-returns-2 Inv-loop μ-loop
 unfolding homesPlaced
 returns-2 c = let e : c .before .loop .c ≡ length (c .before .before .before .args .homes .now) = omega arith in rw (← e) (sym (c .before .loop .inv .1))

@@ -1,34 +1,25 @@
 use mathlib.Core.Path.{sym, _∙_}
-use borrow.Author.Tests.{not-true, not-false, lt-leb, le-leb}
+use borrow.Author.Tests.{not-true, not-false, le-leb}
 use Rattle.lists.specs.Tests.{cases}
 use Rattle.names.specs.Placement.{registerPlaced}
 use borrow.Author.Needs.{needs}
 use Rattle.names.proofs.placement.register_placed.Statement.{statement}
 use Rattle.names.proofs.placement.register_placed.Tie as tie
-use Rattle.names.proofs.placement.register_placed.Reads as reads
-use Rattle.names.proofs.placement.register_placed.Lts as lts
-use Rattle.names.proofs.member.Reads as member-reads
-use Rattle.names.proofs.placement.all_present.Reads as all-present-reads
 
--- src/placement.rt:57:9
 returns : tie.Need-returns
 unfolding registerPlaced
 returns c = search (needs, cases)
 
--- src/placement.rt:59:9
 all-present-requires : tie.Need-all-present-requires
 all-present-requires c κs = search needs
 
--- src/placement.rt:60:9
 returns-2 : tie.Need-returns-2
 unfolding registerPlaced
 returns-2 c = rw (le-leb _ _ (c .before .before .if1 .left), sym (c .before .all-present .ensures) ∙ not-true _ (c .if2 .taken))
 
--- src/placement.rt:62:5
 member-requires : tie.Need-member-requires
 member-requires c κs = search needs
 
--- src/placement.rt:53:1
 returns-3 : tie.Need-returns-3
 unfolding registerPlaced
 returns-3 c = rw (le-leb _ _ (c .before .before .before .if1 .left), sym (c .before .before .all-present .ensures) ∙ not-false _ (c .before .if2 .left)) (c .member .ensures)

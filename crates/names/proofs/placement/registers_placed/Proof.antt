@@ -1,20 +1,14 @@
-use mathlib.Core.Path.{_≡_, refl, sym, _∙_}
+use mathlib.Core.Path.{_≡_, sym, _∙_}
 use mathlib.Core.Bool.{true}
 use Prim.Native.Nat.{_≤_, _-_}
 use native.Mathlib.Omega.{arith}
 use lib.ListN.{length, getD}
 use borrow.Author.Tests.{not-true, not-false}
 use Rattle.lists.specs.Every.{each, each-zero, each-more, each-fails}
-use Rattle.names.specs.Placement.{registerPlaced}
+use Rattle.names.specs.Placement.{registerPlaced, registersPlaced}
 use borrow.Author.Needs.{needs}
-use Rattle.lists.specs.Tests.{cases}
-use Rattle.names.specs.Placement.{registersPlaced}
 use Rattle.names.proofs.placement.registers_placed.Statement.{statement}
 use Rattle.names.proofs.placement.registers_placed.Tie as tie
-use Rattle.names.proofs.placement.registers_placed.Reads as reads
-use Rattle.names.proofs.placement.registers_placed.Lts as lts
-use Rattle.names.proofs.placement.byte.Reads as byte-reads
-use Rattle.names.proofs.placement.register_placed.Reads as register-placed-reads
 
 abbrev Inv-loop : tie.InvT-loop
 Inv-loop cards copies primaries x₀ x = (x ≤ length copies) × (each x (λ k. registerPlaced cards (getD copies k 0) (getD primaries k 0)) ≡ true)
@@ -22,38 +16,30 @@ Inv-loop cards copies primaries x₀ x = (x ≤ length copies) × (each x (λ k.
 abbrev μ-loop : tie.MeasureT-loop
 μ-loop cards copies primaries x₀ x = length copies - x
 
--- src/placement.rt:84:5
 loop-holds : tie.Need-loop-holds Inv-loop μ-loop
 loop-holds c = (search needs, each-zero _)
 
--- src/placement.rt:85:36
 byte-requires : tie.Need-byte-requires Inv-loop μ-loop
 byte-requires c κs = search needs
 
--- src/placement.rt:85:53
 byte-requires-2 : tie.Need-byte-requires-2 Inv-loop μ-loop
 byte-requires-2 c κs = search needs
 
--- src/placement.rt:85:13
 register-placed-requires : tie.Need-register-placed-requires Inv-loop μ-loop
 register-placed-requires c κs = search needs
 
--- src/placement.rt:86:13
 returns : tie.Need-returns Inv-loop μ-loop
 unfolding registersPlaced
 returns c = let cards = c .before .before .before .before .before .before .before .before .args .cards in let copies = c .before .before .before .before .before .before .before .before .args .copies .now in let primaries = c .before .before .before .before .before .before .before .before .args .primaries .now in
     sym (each-fails (length copies) (λ k. registerPlaced cards (getD copies k 0) (getD primaries k 0)) (c .before .before .before .before .before .loop .x) (c .before .before .before .before .loop-test .taken)
     (rw (← c .before .before .before .byte .ensures .0, ← c .before .before .byte2 .ensures .0) (sym (c .before .register-placed .ensures) ∙ not-true _ (c .if1 .taken))))
 
--- src/placement.rt:88:9
 add-x : tie.Need-add-x Inv-loop μ-loop
 add-x c = search needs
 
--- src/placement.rt:84:5
 loop-less : tie.Need-loop-less Inv-loop μ-loop
 loop-less c = search needs
 
--- src/placement.rt:84:5
 loop-again : tie.Need-loop-again Inv-loop μ-loop
 loop-again c = let cards = c .before .before .before .before .before .before .before .before .args .cards in let copies = c .before .before .before .before .before .before .before .before .args .copies .now in let primaries = c .before .before .before .before .before .before .before .before .args .primaries .now in (
   search needs,
@@ -61,7 +47,6 @@ loop-again c = let cards = c .before .before .before .before .before .before .be
       (rw (← c .before .before .before .byte .ensures .0, ← c .before .before .byte2 .ensures .0) (sym (c .before .register-placed .ensures) ∙ not-false _ (c .if1 .left))),
 )
 
--- src/placement.rt:80:1
 returns-2 : tie.Need-returns-2 Inv-loop μ-loop
 unfolding registersPlaced
 returns-2 c = let e : c .before .loop .x ≡ length (c .before .before .before .before .args .copies .now) = omega arith in rw (← e) (sym (c .before .loop .inv .1))

@@ -3,35 +3,27 @@ use Rattle.lists.specs.Tests.{cases}
 use Rattle.names.specs.Placement.{sizesInRange}
 use Rattle.names.proofs.placement.sizes_in_range.Statement.{statement}
 use Rattle.names.proofs.placement.sizes_in_range.Tie as tie
-use Rattle.names.proofs.placement.sizes_in_range.Reads as reads
-use Rattle.names.proofs.placement.sizes_in_range.Lts as lts
 
--- src/placement.rt:25:9
 returns : tie.Need-returns
 unfolding sizesInRange
 returns c = search (needs, cases)
 
--- src/placement.rt:28:9
 returns-2 : tie.Need-returns-2
 unfolding sizesInRange
 returns-2 c = search (needs, cases)
 
--- src/placement.rt:31:9
 returns-3 : tie.Need-returns-3
 unfolding sizesInRange
 returns-3 c = search (needs, cases)
 
--- src/placement.rt:34:9
 returns-4 : tie.Need-returns-4
 unfolding sizesInRange
 returns-4 c = search (needs, cases)
 
--- src/placement.rt:37:9
 returns-5 : tie.Need-returns-5
 unfolding sizesInRange
 returns-5 c = search (needs, cases)
 
--- src/placement.rt:21:1
 returns-6 : tie.Need-returns-6
 unfolding sizesInRange
 returns-6 c = search (needs, cases)

@@ -1,55 +1,41 @@
-use mathlib.Core.Path.{_≡_, ap, _∙_}
+use mathlib.Core.Path.{_≡_}
 use mathlib.Core.List.{append-nil}
 use Prim.Native.Nat.{_+_, _*_}
-use Rattle.runfile.specs.AnswerFile.{wordStored, fourBytes}
+use Rattle.runfile.specs.AnswerFile.{wordStored, fourBytes, putAnswer}
 use native.Mathlib.Omega.{arith}
 use lib.ListN.{set, drop, length-set, length-drop, length-take, length-append}
 use Rattle.lists.specs.Parts.{tail-part, tail-rest, sets-in-tail}
-use Rattle.lists.specs.Tests.{cases}
-use Rattle.runfile.specs.AnswerFile.{putAnswer}
 use borrow.Author.Needs.{needs}
 use Rattle.runfile.proofs.answer.put_answer.Statement.{statement}
 use Rattle.runfile.proofs.answer.put_answer.Tie as tie
-use Rattle.runfile.proofs.answer.put_answer.Reads as reads
-use Rattle.runfile.proofs.answer.put_answer.Lts as lts
-use Rattle.runfile.proofs.answer.fill_value.Reads as fill-value-reads
 
--- src/answer.rt:36:9
 add-out : tie.Need-add-out
 add-out c = search needs
 
--- src/answer.rt:36:5
 slice-write-out : tie.Need-slice-write-out
 slice-write-out c = search needs
 
--- src/answer.rt:37:17
 add-start : tie.Need-add-start
 add-start c = search needs
 
--- src/answer.rt:38:16
 sub-fill-value : tie.Need-sub-fill-value
 sub-fill-value c = simp length-set (omega arith)
 
--- src/answer.rt:38:16
 part-fill-value-start : tie.Need-part-fill-value-start
 part-fill-value-start c = simp length-set (omega arith)
 
--- src/answer.rt:38:16
 part-fill-value-end : tie.Need-part-fill-value-end
 part-fill-value-end c = search needs
 
--- src/answer.rt:38:5
 fill-value-requires : tie.Need-fill-value-requires
 fill-value-requires c κs = (omega arith, rw tail-part (simp (length-drop, length-set) (omega arith)))
 
--- src/answer.rt:30:1
 same-length : tie.Need-same-length
 same-length c = let d = c .before .before in
     let ys = set (c .before .before .before .before .before .args .out .now) (2 + c .before .before .before .before .before .args .k) (c .before .before .before .before .before .args .answer .result) in
     let l = simp (length-take, length-drop, length-set) at (c .before .before .fill-value .kept .0) in
     simp (length-append (c .before .before .fill-value .last .0), length-append, length-take, length-drop, length-set) (omega (arith, l))
 
--- src/answer.rt:30:1
 returns : tie.Need-returns
 unfolding putAnswer wordStored
 returns c = let n = c .before .before .before .before .before .args .n in let k = c .before .before .before .before .before .args .k in let v = c .before .before .before .before .before .args .answer .value in

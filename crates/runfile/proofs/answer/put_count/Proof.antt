@@ -1,33 +1,24 @@
 use mathlib.Core.Path.{refl}
-use Rattle.lists.specs.Tests.{cases}
 use Rattle.runfile.specs.AnswerFile.{headed}
 use borrow.Author.Needs.{needs}
 use Rattle.runfile.proofs.answer.put_count.Statement.{statement}
 use Rattle.runfile.proofs.answer.put_count.Tie as tie
-use Rattle.runfile.proofs.answer.put_count.Reads as reads
-use Rattle.runfile.proofs.answer.put_count.Lts as lts
 
--- src/answer.rt:25:14
 cast-out : tie.Need-cast-out
 cast-out c = search needs
 
--- src/answer.rt:25:5
 slice-write-out : tie.Need-slice-write-out
 slice-write-out c = search needs
 
--- src/answer.rt:26:14
 cast-out-2 : tie.Need-cast-out-2
 cast-out-2 c = search needs
 
--- src/answer.rt:26:5
 slice-write-out-2 : tie.Need-slice-write-out-2
 slice-write-out-2 c = search needs
 
--- src/answer.rt:21:1
 same-length : tie.Need-same-length
 same-length c = search needs
 
--- src/answer.rt:21:1
 returns : tie.Need-returns
 unfolding headed
 returns c = refl

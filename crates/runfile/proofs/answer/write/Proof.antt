@@ -1,50 +1,38 @@
 use borrow.Author.Tests.{le-ltb, eq-eqb}
-use Rattle.runfile.specs.AnswerFile.{answerAt}
+use Rattle.runfile.specs.AnswerFile.{answerAt, writeRefusal, written}
 use Rattle.runfile.proofs.AnswerLaws.{puts-answered}
 use native.Mathlib.Omega.{arith}
 use mathlib.Core.Path.{_∙_}
 use lib.ListN.{length}
 use Rattle.lists.specs.Tests.{cases}
-use Rattle.runfile.specs.AnswerFile.{writeRefusal, written}
 use borrow.Author.Needs.{needs}
 use Rattle.runfile.proofs.answer.write.Statement.{statement}
 use Rattle.runfile.proofs.answer.write.Tie as tie
-use Rattle.runfile.proofs.answer.write.Reads as reads
-use Rattle.runfile.proofs.answer.write.Lts as lts
-use Rattle.runfile.proofs.answer.put_tables.Reads as put-tables-reads
 
--- src/answer.rt:71:9
 returns : tie.Need-returns
 unfolding writeRefusal written
 returns c = search (needs, cases)
 
--- src/answer.rt:74:9
 returns-2 : tie.Need-returns-2
 unfolding writeRefusal written
 returns-2 c = search (needs, cases)
 
--- src/answer.rt:76:24
 mul-if3 : tie.Need-mul-if3
 mul-if3 c = search needs
 
--- src/answer.rt:76:20
 add-if3 : tie.Need-add-if3
 add-if3 c = search needs
 
--- src/answer.rt:77:9
 returns-3 : tie.Need-returns-3
 unfolding writeRefusal written
 returns-3 c = search (needs, cases)
 
--- src/answer.rt:79:5
 put-tables-requires : tie.Need-put-tables-requires
 put-tables-requires c κs = search needs
 
--- src/answer.rt:66:1
 same-length : tie.Need-same-length
 same-length c = search needs
 
--- src/answer.rt:66:1
 returns-4 : tie.Need-returns-4
 unfolding writeRefusal written
 returns-4 c = let r = c .before .before .before .before .before .before .before .before .before .before .args .results .now in let v = c .before .before .before .before .before .before .before .before .before .before .args .values .now in

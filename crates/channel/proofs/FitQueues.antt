@@ -19,11 +19,11 @@ use Rattle.channel.specs.Letters.{addressed, fits}
 use Rattle.channel.specs.Inbox.{pushed, popped}
 use Rattle.channel.specs.Sized.{blockFits, inboxFits, heldFits}
 use Rattle.names.proofs.Blocks.{letter-cong, letter-same}
-use Rattle.channel.proofs.View.{pushed-word, pushed-count, pushed-head, pushed-block, popped-word, popped-count, popped-head}
+use Rattle.channel.proofs.InboxRing.{pushed-word, pushed-count, pushed-head, pushed-block, popped-word, popped-count, popped-head}
 use Rattle.channel.proofs.Sending.{kind-some}
-use Rattle.channel.proofs.Facts.{cards-most}
+use Rattle.channel.proofs.SizedFacts.{cards-most}
 use Rattle.channel.specs.MemoryCalls.{SameSizes}
-use Rattle.channel.proofs.Fitting.{letter=, block-same}
+use Rattle.channel.proofs.WellSizedParts.{letter=, block-same}
 
 -- ---- a fitting letter
 
@@ -32,7 +32,9 @@ module _ (ws : List ℕ) (l : Letter) (f : fits ws l ≡ true) where
   pub fits-to : l .to < 2 ^ cardsOf ws
   unfolding fits addressed
   fits-to =
-      let u = and-five (ltb (l .message .task .0) (tasksOf ws)) (ltb (l .message .register .0) (registersOf ws)) (known (l .message .body)) (ltb (l .from .0) (cardsOf ws))
+      let u =
+      and-five (ltb (l .message .task .0) (tasksOf ws)) (ltb (l .message .register .0) (registersOf ws)) (known (l .message .body))
+      (ltb (l .from .0) (cardsOf ws))
       (addressed ws (l .to)) f in
       ltb-true (l .to) (2 ^ cardsOf ws) (and-snd (leb 1 (l .to)) (ltb (l .to) (2 ^ cardsOf ws)) (u .4))
 
@@ -123,7 +125,8 @@ module _ (ws : List ℕ) (i : ℕ) (long : length ws ≡ 4808) (card : i < 8) (n
 abbrev pub HeldFit : List ℕ → ℕ → ℕ → Type 0
 HeldFit ws i n = (k : ℕ) → k < n → heldFits ws i k ≡ true
 
-pub held-same : (us ws : List ℕ) (i n : ℕ) → SameSizes us ws → ((a : ℕ) → heldBlock i 0 * 8 ≤ a → a < heldBlock i n * 8 → getD us a 0 ≡ getD ws a 0) → HeldFit ws i n → HeldFit us i n
+pub held-same : (us ws : List ℕ) (i n : ℕ) → SameSizes us ws → ((a : ℕ) → heldBlock i 0 * 8 ≤ a → a < heldBlock i n * 8 → getD us a 0 ≡ getD ws a 0)
+    → HeldFit ws i n → HeldFit us i n
 unfolding heldFits
 held-same us ws i n s e f k h =
     let g : (q : ℕ) → q < 8 → getD us (heldBlock i k * 8 + q) 0 ≡ getD ws (heldBlock i k * 8 + q) 0 = λ q r. e _ (omega arith) (omega arith) in

@@ -18,11 +18,11 @@ use Rattle.channel.specs.Letters.{fits}
 use Rattle.channel.specs.TakeSingle.{noFlight}
 use Rattle.channel.specs.Sized.{blockFits, flightFits, headFits}
 use Rattle.channel.proofs.Destinations.{sole-member, sole-present}
-use Rattle.channel.proofs.Facts.{Sized, cards-most}
+use Rattle.channel.proofs.SizedFacts.{Sized, cards-most}
 use Rattle.channel.proofs.Frame.{Outside, outside-word}
 use Rattle.channel.specs.MemoryCalls.{SameSizes}
-use Rattle.channel.proofs.Fitting.{CardFit, Fit, same-cards, same-tasks, flight-same, broadcast-same, card-same}
-use Rattle.channel.proofs.FitMoves.{fits-to, fits-small, block-letter}
+use Rattle.channel.proofs.WellSizedParts.{CardFit, Fit, same-cards, same-tasks, flight-same, broadcast-same, card-same}
+use Rattle.channel.proofs.FitQueues.{fits-to, fits-small, block-letter}
 
 -- a message in flight
 pub record FlightLetter (ws : List ℕ) (t : ℕ) (l : Letter) : Type 0 where

@@ -18,7 +18,7 @@ use Rattle.channel.specs.TakeSingle.{noFlight}
 use Rattle.channel.specs.Sized.{blockFits, inboxFits, heldFits, flightFits, broadcastFits, countsFit, cardFits, recentFits, headFits, wellSized}
 use Rattle.channel.specs.MemoryCalls.{SameSizes}
 use Rattle.names.proofs.Blocks.{letter-cong}
-use Rattle.channel.proofs.Facts.{cards-words, tasks-words, registers-words}
+use Rattle.channel.proofs.SizedFacts.{cards-words, tasks-words, registers-words}
 
 -- card i's part, where m broadcasts are made
 pub record CardFit (ws : List ℕ) (m i : ℕ) : Type 0 where
@@ -40,7 +40,8 @@ card-fit : (ws : List ℕ) (i : ℕ) → cardFits ws i ≡ true → CardFit ws (
 unfolding cardFits countsFit
 card-fit ws i e =
     let u = and-three (countsFit ws i) (each (min (countOf ws i) 48) (inboxFits ws i)) (each (min (heldCountOf ws i) 16) (heldFits ws i)) e in
-    let a = and-five (leb (takenOf ws i) (madeOf ws)) (leb (madeOf ws) (takenOf ws i + 64)) (ltb (headOf ws i) 48) (leb (countOf ws i) 48) (leb (heldCountOf ws i) 16)
+    let a =
+    and-five (leb (takenOf ws i) (madeOf ws)) (leb (madeOf ws) (takenOf ws i + 64)) (ltb (headOf ws i) 48) (leb (countOf ws i) 48) (leb (heldCountOf ws i) 16)
     (u .0) in
     let c : countOf ws i ≤ 48 = leb-true _ _ (a .3) in
     let h : heldCountOf ws i ≤ 16 = leb-true _ _ (a .4) in
@@ -119,7 +120,8 @@ module _ (us ws : List ℕ) (s : SameSizes us ws) where
       let g : (k : ℕ) → k < 8 → getD us (flightBlock t * 8 + k) 0 ≡ getD ws (flightBlock t * 8 + k) 0 = λ k h. e _ (omega arith) (omega arith) in
       rw (kind= (flightBlock t) g, block-same (flightBlock t) g, letter= (flightBlock t) g)
 
-  pub broadcast-same : (n : ℕ) → ((a : ℕ) → broadcastBlock n * 8 ≤ a → a < (broadcastBlock n + 1) * 8 → getD us a 0 ≡ getD ws a 0) → broadcastFits us n ≡ broadcastFits ws n
+  pub broadcast-same : (n : ℕ) → ((a : ℕ) → broadcastBlock n * 8 ≤ a → a < (broadcastBlock n + 1) * 8 → getD us a 0 ≡ getD ws a 0)
+      → broadcastFits us n ≡ broadcastFits ws n
   unfolding broadcastFits
   broadcast-same n e =
       let g : (k : ℕ) → k < 8 → getD us (broadcastBlock n * 8 + k) 0 ≡ getD ws (broadcastBlock n * 8 + k) 0 = λ k h. e _ (omega arith) (omega arith) in

@@ -1,0 +1,26 @@
+-- The limits within which every state reached from a start stays (01, "The ten steps": "Of any card, an outbox has at most 16 messages, an
+-- inbox 48, and at most 16 messages are held; a task has at most one message in flight; broadcast numbers and taken requests end at
+-- 65,535"). So "No state reached by calls from a start ever gives 6".
+use Prim.Native.Nat.{ℕ, _+_, _≤_, _<_}
+use mathlib.Core.Path.{_≡_}
+use mathlib.Core.Option.{some}
+use lib.ListN.{length}
+use Rattle.lists.specs.Filters.{filter}
+use Rattle.channel.specs.Mail.{Mail}
+use Rattle.channel.specs.State.{Tagged}
+use Rattle.claims.specs.Refusals.{Sight}
+
+module _ {M : Type 0} (mail : Mail M) (cards : ℕ) where
+  pub record WithinLimits (s : Sight M) : Type 0 where
+    pub outboxes : (i : ℕ) → length (s .out i) ≤ 16
+    pub inboxes : (i : ℕ) → length (s .channel .inbox i) ≤ 48
+    -- of which at most 32 came by broadcast
+    pub undelivered : (i : ℕ) → length (filter (mail .multi) (s .channel .inbox i)) ≤ 32
+    pub held : (i : ℕ) → length (s .channel .held i) ≤ 16
+    -- what is in flight under a task is its message
+    pub flights : (c : ℕ) (x : Tagged M) → s .channel .flight c ≡ some x → mail .task (x .msg) ≡ c
+    -- broadcasts made are at most the requests taken
+    pub broadcasts : length (s .channel .sent) ≤ s .requests
+    pub requests : s .requests ≤ 65535
+    -- "a card's number of broadcasts taken" is neither above the number made nor more than 64 below it
+    pub counts : (i : ℕ) → i < cards → (s .channel .taken i ≤ length (s .channel .sent)) × (length (s .channel .sent) ≤ s .channel .taken i + 64)

@@ -1,0 +1,65 @@
+-- K2 and K7 to K10 (01, "Named runs"), as lists of steps on the idealised level.
+use Prim.Native.Nat.{ℕ}
+use mathlib.Core.List.{List, [], _∷_, _++_, map}
+use Rattle.names.specs.Placement.{Placement}
+use Rattle.claims.specs.Steps.{RawStep}
+use Rattle.claims.specs.PublishedRun.{Answer, publishedRun}
+
+-- a code and the first bytes of its argument
+abbrev pub step : ℕ → List ℕ → RawStep
+step n b = record { code = n; argument = b ++ (0 ∷ 0 ∷ 0 ∷ 0 ∷ 0 ∷ 0 ∷ 0 ∷ []) }
+
+-- "set register x to v": function 1
+abbrev pub set : ℕ → ℕ → ℕ → RawStep
+set c x v = record { code = 2; argument = c ∷ x ∷ 1 ∷ 0 ∷ v ∷ 0 ∷ 0 ∷ 0 ∷ [] }
+
+-- what the run answers
+abbrev pub results : Placement → List RawStep → List ℕ
+results P l = map (λ a. a .result) (publishedRun P l .1)
+
+abbrev pub readings : Placement → List RawStep → List ℕ
+readings P l = map (λ a. a .value) (publishedRun P l .1)
+
+-- one card, one register, one task
+abbrev pub tiny : Placement
+tiny = record { cards = 1; homes = 0 ∷ []; copies = 1 ∷ []; primaries = 0 ∷ [] }
+
+-- K2's steps: task 0 adds 5 to register 0, then reads it
+abbrev pub k2 : List RawStep
+k2 =
+    record { code = 2; argument = 0 ∷ 0 ∷ 2 ∷ 0 ∷ 5 ∷ 0 ∷ 0 ∷ 0 ∷ [] }
+    ∷ step 3 (0 ∷ []) ∷ step 10 (0 ∷ []) ∷ step 1 (0 ∷ []) ∷ step 3 (0 ∷ []) ∷ step 10 (0 ∷ []) ∷ []
+
+-- "K7 a busy task asks for an absent register: 13; for a present one: 20."
+abbrev pub k7 : List RawStep
+k7 = step 1 (0 ∷ 0 ∷ []) ∷ step 1 (0 ∷ 1 ∷ []) ∷ step 1 (0 ∷ 0 ∷ []) ∷ []
+
+-- "K8 the only copy is at home: code 5 gives 22, code 3 is taken."
+abbrev pub k8 : List RawStep
+k8 = set 0 0 1 ∷ step 5 (0 ∷ []) ∷ step 3 (0 ∷ []) ∷ []
+
+-- "K9 three cards, a task on each. Register 0 everywhere, register 1 on card 1."
+abbrev pub three : Placement
+three = record { cards = 3; homes = 0 ∷ 1 ∷ 2 ∷ []; copies = 7 ∷ 2 ∷ []; primaries = 0 ∷ 1 ∷ [] }
+
+-- "Task 2 sets register 0 to 7 (steps 2, 5, 6); card 0 takes and delivers it; task 0 reads 7, then sends "set register 1 to 9", tagged 1.
+-- Step 8 holds it at card 1;"
+abbrev pub k9-held : List RawStep
+k9-held =
+    set 2 0 7 ∷ step 5 (2 ∷ []) ∷ step 6 (2 ∷ []) ∷ step 7 (0 ∷ []) ∷ step 9 (0 ∷ [])
+    ∷ step 1 (0 ∷ 0 ∷ []) ∷ step 3 (0 ∷ []) ∷ step 10 (0 ∷ [])
+    ∷ set 0 1 9 ∷ step 5 (0 ∷ []) ∷ step 6 (0 ∷ []) ∷ step 8 (0 ∷ []) ∷ []
+
+-- "step 9 there gives 33. After card 1 takes broadcast 1, two deliveries set 7, then 9."
+abbrev pub k9 : List RawStep
+k9 = k9-held ++ (step 9 (1 ∷ []) ∷ step 7 (1 ∷ []) ∷ step 9 (1 ∷ []) ∷ step 9 (1 ∷ []) ∷ [])
+
+-- "K10 same cards. Card 1 delivers broadcast 1, then answers a read from task 0."
+abbrev pub k10-held : List RawStep
+k10-held =
+    set 2 0 7 ∷ step 5 (2 ∷ []) ∷ step 6 (2 ∷ []) ∷ step 7 (1 ∷ []) ∷ step 9 (1 ∷ [])
+    ∷ step 1 (0 ∷ 1 ∷ []) ∷ step 4 (0 ∷ 1 ∷ []) ∷ step 6 (0 ∷ []) ∷ step 8 (0 ∷ []) ∷ step 9 (1 ∷ []) ∷ step 6 (1 ∷ []) ∷ step 8 (0 ∷ []) ∷ []
+
+-- "The reply is held at card 0 until broadcast 1 is taken there."
+abbrev pub k10 : List RawStep
+k10 = k10-held ++ (step 9 (0 ∷ []) ∷ step 7 (0 ∷ []) ∷ step 9 (0 ∷ []) ∷ step 9 (0 ∷ []) ∷ step 10 (0 ∷ []) ∷ [])

@@ -1,0 +1,272 @@
+-- Sequential consistency has teeth: histories of the register layer that the five tempting mistakes lead to (01, "Tempting here"), which no
+-- serial order at all explains (demand 3).
+use Prim.Native.Nat.{suc, zero, ℕ, _<_, _≤_}
+use borrow.Author.Tests.{eqb-true}
+use lib.Dec.{eqb, leb}
+use lib.ListN.{getD, length, length-append}
+use mathlib.Core.Bool.{Bool, cond, false, true, _||_}
+use mathlib.Core.List.{List, [], append-assoc, _++_, _∷_}
+use mathlib.Core.Logic.{inl, inr, _⊎_}
+use mathlib.Core.Path.{ap, refl, subst, sym, _∙_, _≡_}
+use native.Mathlib.Omega.{arith}
+use Rattle.lists.specs.Filters.{Precedes, filter, filter-in, in-filter, in-split}
+use Rattle.lists.specs.Histories.{Any, At, In, any-append, any-nil, any-right, here, now, there}
+use Rattle.lists.specs.Queues.{Once}
+use Rattle.lists.specs.Tests.{and-fst, clash, eqb-of, eqb-refl}
+use Rattle.names.specs.Placement.{copy, home, primary}
+use Rattle.registers.specs.Events.{Crucial}
+use Rattle.registers.specs.Explains.{Explains, reported, somewhere, updatesOf}
+use Rattle.registers.specs.Key.{order}
+use Rattle.registers.specs.Layer.{Event, World, ask, deliver, dispatch, perform, reply, report, request, run, send}
+
+-- ---- the place of an operation in an order
+
+abbrev place : ℕ → List ℕ → ℕ
+place k [] = 0
+place k (a ∷ l) = cond (eqb a k) 0 (suc (place k l))
+
+-- what stands in the first part has its place there; what does not, later
+place-in : (j : ℕ) (l r : List ℕ) → In j l → place j (l ++ r) < length l
+place-in j [] r h = absurd (any-nil h)
+place-in j (a ∷ l) r h = go (eqb a j) refl h (place-in j l r)
+  where
+    go : (t : Bool) → eqb a j ≡ t → In j (a ∷ l) → (In j l → place j (l ++ r) < length l) → cond t 0 (suc (place j (l ++ r))) < suc (length l)
+    go true e h f = omega arith
+    go false e (here p) f = absurd (clash (eqb-of p) e)
+    go false e (there x) f = let z = f x in omega arith
+
+place-out : (j : ℕ) (l r : List ℕ) → ¬ In j l → length l ≤ place j (l ++ r)
+place-out j [] r n = omega arith
+place-out j (a ∷ l) r n = go (eqb a j) refl (place-out j l r (λ h. n (there h)))
+  where
+    go : (t : Bool) → eqb a j ≡ t → length l ≤ place j (l ++ r) → suc (length l) ≤ cond t 0 (suc (place j (l ++ r)))
+    go true e z = absurd (n (here (eqb-true a j e)))
+    go false e z = omega arith
+
+place-self : (k : ℕ) (l r : List ℕ) → place k (l ++ k ∷ r) ≤ length l
+place-self k [] r = let e = ap (λ t. cond t 0 (suc (place k r))) (eqb-refl k) in omega arith
+place-self k (a ∷ l) r = go (eqb a k) (place-self k l r)
+  where
+    go : (t : Bool) → place k (l ++ k ∷ r) ≤ length l → cond t 0 (suc (place k (l ++ k ∷ r))) ≤ suc (length l)
+    go true z = omega arith
+    go false z = omega arith
+
+-- an element that stands once is not in front of itself
+once-front : (k : ℕ) (l r : List ℕ) → Once (l ++ k ∷ r) → ¬ In k l
+once-front k (a ∷ l) r o (here p) = o .0 (subst (λ x. In x (l ++ k ∷ r)) (sym p) (any-right l (here refl)))
+once-front k (a ∷ l) r o (there h) = once-front k l r (o .1) h
+
+module _ (W : World) (E : List Event) (order : List ℕ) (X : Explains W E order) where
+  abbrev at : ℕ → ℕ
+  at k = place k order
+
+  before : (j k : ℕ) → Precedes j k order → at j < at k
+  before j k (pre, post, e, h) =
+      let a = place-in j pre (k ∷ post) h in
+      let b = place-out k pre (k ∷ post) (once-front k pre post (subst Once e (X .once))) in
+      let c = ap (place j) e in
+      let d = ap (place k) e in
+      omega arith
+
+  -- a task's operations
+  follows : (j k : ℕ) → In j order → In k order → W .task j ≡ W .task k → j < k → at j < at k
+  follows j k x y t l = before j k (X .tasks j k x y t l)
+
+  module _ (k i : ℕ) (B : List Event) (u : W .upd k ≡ false) (x : At (Crucial W k i) B E) (h : In k order) where
+    -- a read comes after an update of its register that it saw
+    saw : (j : ℕ) → In j (filter (updatesOf W (W .reg k)) ((run W B) .applied i)) → at j < at k
+    saw j y =
+        let r = in-split h in
+        before j k (r .0, r .1, r .2, filter-in (updatesOf W (W .reg k)) (r .0) (subst (In j) (sym (X .reads k i B u x (r .0) (r .1) (r .2))) y) .0)
+
+    -- and before one that it missed
+    missed : (j : ℕ) → In j order → updatesOf W (W .reg k) j ≡ true → ¬ In j ((run W B) .applied i) → at k < at j
+    missed j y v n =
+        let r = in-split h in
+        let q = X .reads k i B u x (r .0) (r .1) (r .2) in
+        let out : ¬ In j (r .0) = λ z. n (filter-in (updatesOf W (W .reg k)) ((run W B) .applied i) (subst (In j) q (in-filter (updatesOf W (W .reg k)) z v)) .0) in
+        let a = place-out j (r .0 ++ (k ∷ [])) (r .1) (neither (r .0) out) in
+        let b = place-self k (r .0) (r .1) in
+        let c : at j ≡ place j ((r .0 ++ (k ∷ [])) ++ r .1) = ap (place j) (r .2 ∙ sym (append-assoc (r .0) (k ∷ []) (r .1))) in
+        let d = ap (place k) (r .2) in
+        let e = length-append (r .0) (k ∷ []) in
+        omega arith
+      where
+        neither : (l : List ℕ) → ¬ In j l → ¬ In j (l ++ (k ∷ []))
+        neither l f z = go (any-append l (k ∷ []) z)
+          where
+            go : In j l ⊎ In j (k ∷ []) → ⊥
+            go (inl y) = f y
+            go (inr (here p)) = clash (and-fst (W .upd j) _ v) (ap (W .upd) (sym p) ∙ u)
+            go (inr (there y)) = any-nil y
+
+-- ---- an event of a history by its place, and what came before it
+
+abbrev EventAt : (Event → Type 0) → ℕ → List Event → Type 0
+EventAt Q n [] = ⊥
+EventAt Q zero (e ∷ E) = Q e
+EventAt Q (suc n) (e ∷ E) = EventAt Q n E
+
+abbrev past : ℕ → List Event → List Event
+past n [] = []
+past zero (e ∷ E) = E
+past (suc n) (e ∷ E) = past n E
+
+some-event : {Q : Event → Type 0} (n : ℕ) (E : List Event) → EventAt Q n E → Any Q E
+some-event n [] h = absurd h
+some-event zero (e ∷ E) h = here h
+some-event (suc n) (e ∷ E) h = there (some-event n E h)
+
+moment : {Q : Event → Type 0} (n : ℕ) (E : List Event) → EventAt Q n E → At Q (past n E) E
+moment n [] h = absurd h
+moment zero (e ∷ E) h = now h
+moment (suc n) (e ∷ E) h = At.before (moment n E h)
+
+-- ---- the histories, newest first
+
+not-two : (n : ℕ) → ¬ (2 ≡ n) → ¬ In n (2 ∷ [])
+not-two n h (here p) = h p
+not-two n h (there x) = any-nil x
+
+-- three cards, task c at home on card c; register 0 everywhere, register 1 on card 1 alone, register 2 on cards 1 and 2
+abbrev three : (ℕ → ℕ) → (ℕ → ℕ) → (ℕ → Bool) → World
+three task reg upd = record {
+  home = λ c. c;
+  copy = λ x i. cond (eqb x 0) (leb i 2) (cond (eqb x 1) (eqb i 1) (eqb i 1 || eqb i 2));
+  primary = λ x. 1;
+  task = task;
+  reg = reg;
+  upd = upd;
+  chosen = λ k. 1;
+}
+
+-- K9 without a tag, or where a larger tag joins at once, or where a released message is put ahead of its broadcast. Operation 0: task 2 sets
+-- register 0. 1: task 0 reads it. 2: task 0 sets register 1, on card 1, which delivers it before 0. 3, 4: task 1 reads register 1, then 0.
+abbrev pub overtaking : World
+overtaking = three (λ k. getD (2 ∷ 0 ∷ 0 ∷ 1 ∷ 1 ∷ []) k 0) (λ k. getD (0 ∷ 0 ∷ 1 ∷ 1 ∷ 0 ∷ []) k 0) (λ k. getD (true ∷ false ∷ true ∷ false ∷ false ∷ []) k false)
+
+abbrev pub overtaken : List Event
+overtaken =
+    report 4 ∷ perform 4 ∷ request 4 ∷ report 3 ∷ perform 3 ∷ request 3 ∷ deliver (ask 2) 1 ∷ dispatch (ask 2) ∷ send 2 ∷ request 2
+    ∷ report 1 ∷ perform 1 ∷ request 1 ∷ deliver (ask 0) 0 ∷ dispatch (ask 0) ∷ send 0 ∷ request 0 ∷ []
+
+pub overtaken-unexplained : (order : List ℕ) → ¬ Explains overtaking overtaken order
+unfolding eqb leb
+overtaken-unexplained order X =
+    let W = overtaking in
+    let E = overtaken in
+    let i0 = X .complete 0 (somewhere refl 0 (some-event 13 E (refl, refl))) in
+    let i1 = X .complete 1 (reported (some-event 10 E refl)) in
+    let i2 = X .complete 2 (somewhere refl 1 (some-event 6 E (refl, refl))) in
+    let i3 = X .complete 3 (reported (some-event 3 E refl)) in
+    let i4 = X .complete 4 (reported (some-event 0 E refl)) in
+    let a = saw W E order X 1 0 (past 11 E) refl (moment 11 E (refl, refl)) i1 0 (here refl) in
+    let b = follows W E order X 1 2 i1 i2 refl (omega arith) in
+    let c = saw W E order X 3 1 (past 4 E) refl (moment 4 E (refl, refl)) i3 2 (here refl) in
+    let d = follows W E order X 3 4 i3 i4 refl (omega arith) in
+    let e = missed W E order X 4 1 (past 1 E) refl (moment 1 E (refl, refl)) i4 0 i0 refl (not-two 0 (λ p. omega arith)) in
+    omega arith
+
+-- K10 where replies have no tag. 0: task 2 sets register 0. 1: task 1 reads it. 2: task 1 sets register 1, on its card alone. 3: task 0 reads
+-- register 1 from card 1; the reply comes before 0. 4: task 0 reads register 0.
+abbrev pub untagged : World
+untagged = three (λ k. getD (2 ∷ 1 ∷ 1 ∷ 0 ∷ 0 ∷ []) k 0) (λ k. getD (0 ∷ 0 ∷ 1 ∷ 1 ∷ 0 ∷ []) k 0) (λ k. getD (true ∷ false ∷ true ∷ false ∷ false ∷ []) k false)
+
+abbrev pub early-reply : List Event
+early-reply =
+    report 4 ∷ perform 4 ∷ request 4 ∷ report 3 ∷ deliver (reply 3) 0 ∷ dispatch (reply 3) ∷ deliver (ask 3) 1 ∷ dispatch (ask 3) ∷ send 3 ∷ request 3
+    ∷ report 2 ∷ perform 2 ∷ request 2 ∷ report 1 ∷ perform 1 ∷ request 1 ∷ deliver (ask 0) 1 ∷ dispatch (ask 0) ∷ send 0 ∷ request 0 ∷ []
+
+pub early-reply-unexplained : (order : List ℕ) → ¬ Explains untagged early-reply order
+unfolding eqb leb
+early-reply-unexplained order X =
+    let W = untagged in
+    let E = early-reply in
+    let i0 = X .complete 0 (somewhere refl 1 (some-event 16 E (refl, refl))) in
+    let i1 = X .complete 1 (reported (some-event 13 E refl)) in
+    let i2 = X .complete 2 (reported (some-event 10 E refl)) in
+    let i3 = X .complete 3 (reported (some-event 3 E refl)) in
+    let i4 = X .complete 4 (reported (some-event 0 E refl)) in
+    let a = saw W E order X 1 1 (past 14 E) refl (moment 14 E (refl, refl)) i1 0 (here refl) in
+    let b = follows W E order X 1 2 i1 i2 refl (omega arith) in
+    let c = saw W E order X 3 1 (past 6 E) refl (moment 6 E (refl, refl)) i3 2 (here refl) in
+    let d = follows W E order X 3 4 i3 i4 refl (omega arith) in
+    let e = missed W E order X 4 0 (past 1 E) refl (moment 1 E (refl, refl)) i4 0 i0 refl (λ h. any-nil h) in
+    omega arith
+
+-- A card that is no holder and does not count a broadcast. 0: task 2 sets register 2, which is not on card 0. 1: task 2 sets register 0. 2: task
+-- 0 reads it. 3: task 0 sets register 1; the tag is one too low, and card 1, which has taken 0 alone, delivers 3 before 1. 4, 5: task 1 reads
+-- register 1, then 0.
+abbrev pub uncounting : World
+uncounting = three (λ k. getD (2 ∷ 2 ∷ 0 ∷ 0 ∷ 1 ∷ 1 ∷ []) k 0) (λ k. getD (2 ∷ 0 ∷ 0 ∷ 1 ∷ 1 ∷ 0 ∷ []) k 0) (λ k. getD (true ∷ true ∷ false ∷ true ∷ false ∷ false ∷ []) k false)
+
+abbrev pub uncounted : List Event
+uncounted =
+    report 5 ∷ perform 5 ∷ request 5 ∷ report 4 ∷ perform 4 ∷ request 4 ∷ deliver (ask 3) 1 ∷ deliver (ask 0) 1 ∷ dispatch (ask 3) ∷ send 3 ∷ request 3
+    ∷ report 2 ∷ perform 2 ∷ request 2 ∷ deliver (ask 1) 0 ∷ dispatch (ask 1) ∷ send 1 ∷ request 1 ∷ report 0 ∷ deliver (ask 0) 2 ∷ dispatch (ask 0) ∷ send 0 ∷ request 0 ∷ []
+
+pub uncounted-unexplained : (order : List ℕ) → ¬ Explains uncounting uncounted order
+unfolding eqb leb
+uncounted-unexplained order X =
+    let W = uncounting in
+    let E = uncounted in
+    let i1 = X .complete 1 (somewhere refl 0 (some-event 14 E (refl, refl))) in
+    let i2 = X .complete 2 (reported (some-event 11 E refl)) in
+    let i3 = X .complete 3 (somewhere refl 1 (some-event 6 E (refl, refl))) in
+    let i4 = X .complete 4 (reported (some-event 3 E refl)) in
+    let i5 = X .complete 5 (reported (some-event 0 E refl)) in
+    let a = saw W E order X 2 0 (past 12 E) refl (moment 12 E (refl, refl)) i2 1 (here refl) in
+    let b = follows W E order X 2 3 i2 i3 refl (omega arith) in
+    let c = saw W E order X 4 1 (past 4 E) refl (moment 4 E (refl, refl)) i4 3 (here refl) in
+    let d = follows W E order X 4 5 i4 i5 refl (omega arith) in
+    let e = missed W E order X 5 1 (past 1 E) refl (moment 1 E (refl, refl)) i5 1 i1 refl without in
+    omega arith
+  where
+    without : ¬ In {A = ℕ} 1 (0 ∷ 3 ∷ [])
+    without (here p) = omega arith
+    without (there (here p)) = omega arith
+    without (there (there h)) = any-nil h
+
+-- A shared update reported when sent. 0: task 0 sets register 0, which is on its card too, and is told at once. 1: task 0 reads register 0.
+abbrev pub hasty : World
+hasty = three (λ k. 0) (λ k. 0) (λ k. getD (true ∷ false ∷ []) k false)
+
+abbrev pub reported-when-sent : List Event
+reported-when-sent = report 1 ∷ perform 1 ∷ request 1 ∷ report 0 ∷ send 0 ∷ request 0 ∷ []
+
+pub reported-when-sent-unexplained : (order : List ℕ) → ¬ Explains hasty reported-when-sent order
+unfolding eqb leb
+reported-when-sent-unexplained order X =
+    let W = hasty in
+    let E = reported-when-sent in
+    let i0 = X .complete 0 (reported (some-event 3 E refl)) in
+    let i1 = X .complete 1 (reported (some-event 0 E refl)) in
+    let a = follows W E order X 0 1 i0 i1 refl (omega arith) in
+    let b = missed W E order X 1 0 (past 1 E) refl (moment 1 E (refl, refl)) i1 0 i0 refl (λ h. any-nil h) in
+    omega arith
+
+-- A reply from every holder. 0, 1: task 0, on a card without a copy, sets register 2 twice. Both holders of register 2 reply to 0; the second
+-- reply comes when task 0 waits for 1, and is taken for its answer. 2: task 0 reads register 2 from card 1, which has not applied 1.
+abbrev pub chatty : World
+chatty = three (λ k. 0) (λ k. 2) (λ k. getD (true ∷ true ∷ false ∷ []) k false)
+
+abbrev pub second-reply : List Event
+second-reply =
+    report 2 ∷ deliver (reply 2) 0 ∷ dispatch (reply 2) ∷ deliver (ask 2) 1 ∷ dispatch (ask 2) ∷ send 2 ∷ request 2
+    ∷ report 1 ∷ deliver (reply 0) 0 ∷ dispatch (ask 1) ∷ send 1 ∷ request 1
+    ∷ report 0 ∷ deliver (reply 0) 0 ∷ dispatch (reply 0) ∷ dispatch (reply 0) ∷ deliver (ask 0) 2 ∷ deliver (ask 0) 1 ∷ dispatch (ask 0) ∷ send 0 ∷ request 0 ∷ []
+
+pub second-reply-unexplained : (order : List ℕ) → ¬ Explains chatty second-reply order
+unfolding eqb leb
+second-reply-unexplained order X =
+    let W = chatty in
+    let E = second-reply in
+    let i1 = X .complete 1 (reported (some-event 7 E refl)) in
+    let i2 = X .complete 2 (reported (some-event 0 E refl)) in
+    let a = follows W E order X 1 2 i1 i2 refl (omega arith) in
+    let b = missed W E order X 2 1 (past 3 E) refl (moment 3 E (refl, refl)) i2 1 i1 refl without in
+    omega arith
+  where
+    without : ¬ In {A = ℕ} 1 (0 ∷ [])
+    without (here p) = omega arith
+    without (there h) = any-nil h

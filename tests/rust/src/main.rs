@@ -1,0 +1,124 @@
+//! `compare`: the model's answers, generated files and checks, from the command line.
+
+use std::path::Path;
+use std::process::ExitCode;
+
+use gondzselu_model::generate::{self, Kind};
+use gondzselu_model::model::files::{program_output, RawStep, Run};
+use gondzselu_model::named;
+use gondzselu_model::random::Random;
+use gondzselu_model::selfcheck::{check, Checked};
+use gondzselu_model::statistics::Statistics;
+
+const USAGE: &str = "compare names                    K1 to K13: name, file and answer in hex
+compare generate SEED COUNT DIR  writes run files and the model's answers
+compare statistics SEED COUNT    what generated files contain
+compare self SEED COUNT          checks the model against itself
+compare library SEED COUNT       compares the library (feature library)";
+
+fn main() -> ExitCode {
+    let words: Vec<String> = std::env::args().skip(1).collect();
+    let words: Vec<&str> = words.iter().map(String::as_str).collect();
+    let result = match words[..] {
+        ["names"] => names(),
+        ["generate", seed, count, directory] => write(seed, count, Path::new(directory)),
+        ["statistics", seed, count] => each(seed, count, |_, _| Ok(())),
+        ["self", seed, count] => self_checks(seed, count),
+        #[cfg(feature = "library")]
+        ["library", seed, count] => each(seed, count, |_, file| {
+            gondzselu_model::library::compare(file)
+        }),
+        _ => Err(USAGE.into()),
+    };
+    match result {
+        Ok(()) => ExitCode::SUCCESS,
+        Err(words) => {
+            eprintln!("{words}");
+            ExitCode::FAILURE
+        }
+    }
+}
+
+fn number(word: &str) -> Result<u64, String> {
+    word.parse().map_err(|_| format!("no number: {word}"))
+}
+
+fn hex(bytes: &[u8]) -> String {
+    bytes.iter().map(|byte| format!("{byte:02x}")).collect()
+}
+
+/// A line per run: name, file, answer (a refused file's answer is its refusal). K13 is told
+/// as a file without steps, then the steps of a round, how often, and the step that gives 23.
+fn names() -> Result<(), String> {
+    for run in named::runs() {
+        let answer = run.answer.unwrap_or_else(|refusal| vec![refusal]);
+        println!("{} {} {}", run.name, hex(&run.file), hex(&answer));
+    }
+    let k13 = named::k13();
+    let step = |(code, argument): RawStep| format!("{code:02x}:{}", hex(&argument));
+    let start = Run {
+        placement: k13.start,
+        steps: Vec::new(),
+    };
+    println!(
+        "K13 {} {} {} {:02x}",
+        hex(&start.write()),
+        k13.round.map(step).join(","),
+        k13.times,
+        k13.refusal
+    );
+    Ok(())
+}
+
+/// Does something with each file of a seed and prints the statistics.
+fn each(
+    seed: &str,
+    count: &str,
+    mut action: impl FnMut(u64, &[u8]) -> Result<(), String>,
+) -> Result<(), String> {
+    let number = |word: &str| {
+        word.parse::<u64>()
+            .map_err(|_| format!("no number: {word}"))
+    };
+    let (seed, count) = (number(seed)?, number(count)?);
+    let mut statistics = Statistics::default();
+    for item in 0..count {
+        let (kind, file) = generate::file(seed, item);
+        statistics.add(kind, &file);
+        action(item, &file)
+            .map_err(|words| format!("seed {seed} item {item} ({kind:?}): {words}"))?;
+    }
+    println!("{statistics}");
+    Ok(())
+}
+
+/// Writes each file as `N.run` and what the program is to write for it as `N.answer`.
+fn write(seed: &str, count: &str, directory: &Path) -> Result<(), String> {
+    std::fs::create_dir_all(directory).map_err(|error| error.to_string())?;
+    each(seed, count, |item, file| {
+        let put = |ending: &str, bytes: &[u8]| {
+            let path = directory.join(format!("{item:06}.{ending}"));
+            std::fs::write(path, bytes).map_err(|error| error.to_string())
+        };
+        put("run", file)?;
+        put("answer", &program_output(file))
+    })
+}
+
+/// Checks each file and with it a tiny one, for which every order can be tried.
+fn self_checks(seed: &str, count: &str) -> Result<(), String> {
+    let mut checked = Checked::default();
+    let mut random = Random::new(number(seed)?, 0);
+    each(seed, count, |_, file| {
+        let tiny = generate::file_of(Kind::Tiny, &mut random);
+        check(file, &mut checked)?;
+        check(&tiny, &mut checked).map_err(|words| format!("its tiny run: {words}"))
+    })?;
+    let Checked {
+        runs,
+        steps,
+        orders,
+    } = checked;
+    println!("checked {runs} runs, {steps} steps, {orders} serial orders");
+    Ok(())
+}

@@ -1,0 +1,269 @@
+//! The state of the store and its ten steps, written from document 01 alone.
+//! Quoted comments are its sentences.
+//!
+//! A step is first judged without touching the state (`decode`, then `judge`)
+//! and then taken (`take`), so a refused step plainly changes nothing.
+
+pub mod channel;
+pub mod files;
+mod judge;
+pub mod placement;
+pub mod sized;
+pub mod step;
+pub mod tally;
+
+use channel::{Body, Channel, Message};
+use placement::Placement;
+use step::Step;
+
+/// Numbers from 0. A set of cards is a byte, "bit i set where card i" belongs.
+pub type Card = usize;
+pub type Register = usize;
+pub type TaskNumber = usize;
+pub type Cards = u8;
+
+/// A number of document 01's list of refusals.
+pub type Refusal = u8;
+
+/// "taken requests end at 65,535".
+pub const REQUESTS: u32 = 65_535;
+
+pub fn only(card: Card) -> Cards {
+    1 << card
+}
+
+pub fn has(cards: Cards, card: Card) -> bool {
+    cards & only(card) != 0
+}
+
+#[derive(Clone, Copy, Debug, PartialEq, Eq)]
+pub enum Request {
+    Read {
+        register: Register,
+    },
+    Update {
+        register: Register,
+        function: u8,
+        operand: u32,
+    },
+}
+
+#[derive(Clone, Copy, Debug, PartialEq, Eq)]
+pub enum Task {
+    Quiet,
+    Asking(Request),
+    Waiting,
+    /// With the value to report: the value read, 0 for an update.
+    Done(u32),
+}
+
+#[derive(Clone, Debug, PartialEq, Eq)]
+pub struct State {
+    pub placement: Placement,
+    /// "In the state the copies lie card after card."
+    pub copies: Vec<u32>,
+    pub tasks: Vec<Task>,
+    /// Requests taken, of all tasks together.
+    pub requests: u32,
+    pub channel: Channel,
+}
+
+/// "1 gives w; 2 gives v + w modulo 4,294,967,296; 3 gives the larger; 4 gives the bitwise or."
+pub fn apply(function: u8, v: u32, w: u32) -> u32 {
+    match function {
+        1 => w,
+        2 => v.wrapping_add(w),
+        3 => v.max(w),
+        4 => v | w,
+        _ => unreachable!("function {function}"),
+    }
+}
+
+impl State {
+    /// "A start made from a placement without a file meets 3, then 4, and no state is begun."
+    pub fn start(placement: Placement) -> Result<State, Refusal> {
+        placement.judge()?;
+        let cards = placement.cards as usize;
+        let tasks = placement.home.len();
+        Ok(State {
+            copies: vec![0; cards * placement.registers.len()],
+            tasks: vec![Task::Quiet; tasks],
+            requests: 0,
+            channel: Channel::new(cards, tasks),
+            placement,
+        })
+    }
+
+    /// One step on any state: "6 for the state, then rising number, then 6 for the outcome".
+    /// Gives the result (0 taken, else the refusal) and the value.
+    pub fn step(&mut self, code: u8, argument: [u8; 8]) -> (u8, u32) {
+        if !self.well_sized() {
+            return (6, 0);
+        }
+        self.step_reached(code, argument)
+    }
+
+    /// The same for a state reached from a start, which is always well sized.
+    pub fn step_reached(&mut self, code: u8, argument: [u8; 8]) -> (u8, u32) {
+        match self.allowed(code, argument) {
+            Ok(step) => (0, self.take(step)),
+            Err(refusal) => (refusal, 0),
+        }
+    }
+
+    /// The step, if the rules take it now.
+    pub fn allowed(&self, code: u8, argument: [u8; 8]) -> Result<Step, Refusal> {
+        let step = step::decode(code, argument, &self.placement)?;
+        self.judge(step)?;
+        Ok(step)
+    }
+
+    pub fn home(&self, task: TaskNumber) -> Card {
+        self.placement.home[task] as usize
+    }
+
+    pub fn holders(&self, register: Register) -> Cards {
+        self.placement.registers[register].holders
+    }
+
+    pub fn copy(&self, card: Card, register: Register) -> u32 {
+        self.copies[card * self.placement.registers.len() + register]
+    }
+
+    fn copy_mut(&mut self, card: Card, register: Register) -> &mut u32 {
+        &mut self.copies[card * self.placement.registers.len() + register]
+    }
+
+    /// Takes a step that `judge` allowed and gives the value of the answer file.
+    fn take(&mut self, step: Step) -> u32 {
+        match step {
+            Step::RequestRead { task, register } => {
+                self.ask(task, Request::Read { register });
+            }
+            Step::RequestUpdate {
+                task,
+                register,
+                function,
+                operand,
+            } => {
+                let request = Request::Update {
+                    register,
+                    function,
+                    operand,
+                };
+                self.ask(task, request);
+            }
+            Step::Perform { task } => {
+                let home = self.home(task);
+                let value = match self.request(task) {
+                    Request::Read { register } => self.copy(home, register),
+                    Request::Update {
+                        register,
+                        function,
+                        operand,
+                    } => {
+                        self.update(home, register, function, operand);
+                        0
+                    }
+                };
+                self.tasks[task] = Task::Done(value);
+            }
+            Step::SendRead { task, chosen } => self.send_request(task, only(chosen)),
+            Step::SendUpdate { task } => {
+                let holders = match self.request(task) {
+                    Request::Read { register } | Request::Update { register, .. } => {
+                        self.holders(register)
+                    }
+                };
+                self.send_request(task, holders);
+            }
+            Step::Dispatch { card } => self.channel.dispatch(card),
+            Step::TakeBroadcast { card } => self.channel.take_broadcast(card),
+            Step::TakeSingle { task } => self.channel.take_single(task),
+            Step::Deliver { card } => self.deliver(card),
+            Step::Report { task } => {
+                if let Task::Done(value) = self.tasks[task] {
+                    self.tasks[task] = Task::Quiet;
+                    return value;
+                }
+            }
+        }
+        0
+    }
+
+    fn ask(&mut self, task: TaskNumber, request: Request) {
+        self.tasks[task] = Task::Asking(request);
+        self.requests += 1;
+    }
+
+    fn request(&self, task: TaskNumber) -> Request {
+        match self.tasks[task] {
+            Task::Asking(request) => request,
+            _ => unreachable!("judged to be asking"),
+        }
+    }
+
+    /// "a read message to the chosen holder", "an update message to all holders joins the
+    /// outbox; the task waits."
+    fn send_request(&mut self, task: TaskNumber, to: Cards) {
+        let body = Body::Request(self.request(task));
+        let home = self.home(task);
+        self.channel.send(home, Message { task, to, body });
+        self.tasks[task] = Task::Waiting;
+    }
+
+    fn update(&mut self, card: Card, register: Register, function: u8, operand: u32) {
+        let copy = self.copy_mut(card, register);
+        *copy = apply(function, *copy, operand);
+    }
+
+    /// The reply that delivering this message on this card sends, if any.
+    fn reply(&self, card: Card, message: &Message) -> Option<Message> {
+        let task = message.task;
+        let home = self.home(task);
+        let value = match message.body {
+            // "Read: a reply to the task's card, with the value, joins this card's outbox."
+            Body::Request(Request::Read { register }) => self.copy(card, register),
+            // "if its home holds no copy and this card is primary, a reply joins likewise."
+            Body::Request(Request::Update { register, .. }) => {
+                let place = self.placement.registers[register];
+                if has(place.holders, home) || place.primary as usize != card {
+                    return None;
+                }
+                0
+            }
+            Body::Reply { .. } => return None,
+        };
+        Some(Message {
+            task,
+            to: only(home),
+            body: Body::Reply { value },
+        })
+    }
+
+    /// "Deliver the inbox head."
+    fn deliver(&mut self, card: Card) {
+        let Some(message) = self.channel.inbox[card].pop_front() else {
+            return;
+        };
+        if let Some(reply) = self.reply(card, &message) {
+            self.channel.send(card, reply);
+        }
+        match message.body {
+            Body::Request(Request::Read { .. }) => {}
+            Body::Request(Request::Update {
+                register,
+                function,
+                operand,
+            }) => {
+                // "Update: applied; if the task's home is here it is done"
+                self.update(card, register, function, operand);
+                if self.home(message.task) == card {
+                    self.tasks[message.task] = Task::Done(0);
+                }
+            }
+            // "Reply: the task is done."
+            Body::Reply { value } => self.tasks[message.task] = Task::Done(value),
+        }
+    }
+}

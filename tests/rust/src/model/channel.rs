@@ -1,0 +1,286 @@
+//! The context multicast channel: outboxes, broadcasts, single messages and inboxes.
+//! "The channel (6, 7, 8 and the inbox) is a layer of its own".
+
+use std::collections::VecDeque;
+
+use super::{has, Card, Cards, Refusal, Request, TaskNumber};
+
+/// "Of any card, an outbox has at most 16 messages, an inbox 48, and at most 16 messages are
+/// held; ... broadcast numbers ... end at 65,535."
+pub const OUTBOX: usize = 16;
+pub const INBOX: usize = 48;
+pub const HELD: usize = 16;
+pub const BROADCASTS: u32 = 65_535;
+/// "34 a broadcast would leave some card more than 64 behind."
+pub const BEHIND: u32 = 64;
+/// "35 ... its inbox already has 32 undelivered broadcasts."
+pub const UNDELIVERED: usize = 32;
+
+#[derive(Clone, Copy, Debug, PartialEq, Eq)]
+pub enum Body {
+    Request(Request),
+    Reply { value: u32 },
+}
+
+#[derive(Clone, Copy, Debug, PartialEq, Eq)]
+pub struct Message {
+    pub task: TaskNumber,
+    /// The destinations.
+    pub to: Cards,
+    pub body: Body,
+}
+
+impl Message {
+    pub fn is_broadcast(&self) -> bool {
+        self.to.count_ones() > 1
+    }
+}
+
+/// A single message with the number of broadcasts its sender had taken.
+#[derive(Clone, Copy, Debug, PartialEq, Eq)]
+pub struct Tagged {
+    pub message: Message,
+    pub tag: u32,
+}
+
+impl Tagged {
+    pub fn destination(&self) -> Card {
+        self.message.to.trailing_zeros() as Card
+    }
+}
+
+#[derive(Clone, Debug, PartialEq, Eq)]
+pub struct Channel {
+    /// The number of broadcasts made; the next one gets this plus 1.
+    pub made: u32,
+    /// The last 64 broadcasts; no card is further behind.
+    pub recent: VecDeque<Message>,
+    /// By card: the number of broadcasts taken.
+    pub taken: Vec<u32>,
+    /// By card, first in, first out.
+    pub outbox: Vec<VecDeque<Message>>,
+    pub inbox: Vec<VecDeque<Message>>,
+    /// By card, in order of arrival.
+    pub held: Vec<Vec<Tagged>>,
+    /// By task: "a task has at most one message in flight".
+    pub flight: Vec<Option<Tagged>>,
+}
+
+impl Channel {
+    pub fn new(cards: usize, tasks: usize) -> Channel {
+        Channel {
+            made: 0,
+            recent: VecDeque::new(),
+            taken: vec![0; cards],
+            outbox: vec![VecDeque::new(); cards],
+            inbox: vec![VecDeque::new(); cards],
+            held: vec![Vec::new(); cards],
+            flight: vec![None; tasks],
+        }
+    }
+
+    /// How many broadcasts wait undelivered in a card's inbox.
+    pub fn undelivered(&self, card: Card) -> usize {
+        let inbox = self.inbox[card].iter();
+        inbox.filter(|message| message.is_broadcast()).count()
+    }
+
+    /// The broadcast that a card takes next, if it was made.
+    fn next(&self, card: Card) -> Option<&Message> {
+        let behind = self.made.checked_sub(self.taken[card])? as usize;
+        let index = self.recent.len().checked_sub(behind)?;
+        self.recent.get(index)
+    }
+
+    /// Whether one more message for these destinations may join a card's outbox.
+    pub fn may_send(&self, card: Card, to: Cards) -> Result<(), Refusal> {
+        if to == 0 || self.outbox[card].len() >= OUTBOX {
+            return Err(6);
+        }
+        Ok(())
+    }
+
+    pub fn send(&mut self, card: Card, message: Message) {
+        self.outbox[card].push_back(message);
+    }
+
+    pub fn may_dispatch(&self, card: Card) -> Result<(), Refusal> {
+        // "30 outbox empty."
+        let head = self.outbox[card].front().ok_or(30)?;
+        if head.is_broadcast() {
+            let number = self.made + 1;
+            if self.taken.iter().any(|taken| number - taken > BEHIND) {
+                return Err(34);
+            }
+            if number > BROADCASTS {
+                return Err(6);
+            }
+        } else if self.flight[head.task].is_some() {
+            return Err(6);
+        }
+        Ok(())
+    }
+
+    /// "Dispatch the head of a card's outbox."
+    pub fn dispatch(&mut self, card: Card) {
+        let Some(message) = self.outbox[card].pop_front() else {
+            return;
+        };
+        if message.is_broadcast() {
+            // "it gets the next broadcast number, from 1"
+            self.made += 1;
+            if self.recent.len() == BEHIND as usize {
+                self.recent.pop_front();
+            }
+            self.recent.push_back(message);
+        } else {
+            // "it is tagged with the number of broadcasts this card has taken and is in flight.
+            // Replies are tagged too."
+            let tag = self.taken[card];
+            self.flight[message.task] = Some(Tagged { message, tag });
+        }
+    }
+
+    pub fn may_take_broadcast(&self, card: Card) -> Result<(), Refusal> {
+        // "31 no broadcast to take."
+        let next = self.next(card).ok_or(31)?;
+        let joins = has(next.to, card);
+        if joins && self.undelivered(card) >= UNDELIVERED {
+            return Err(35);
+        }
+        let number = self.taken[card] + 1;
+        let released = self.held[card].iter().filter(|held| held.tag == number);
+        if self.inbox[card].len() + joins as usize + released.count() > INBOX {
+            return Err(6);
+        }
+        Ok(())
+    }
+
+    /// "the card takes the next number. It joins the inbox if the card is a destination, else
+    /// it is dropped. Then held single messages whose tag equals the new number join, in order
+    /// of arrival."
+    pub fn take_broadcast(&mut self, card: Card) {
+        let next = self.next(card).copied();
+        let inbox = &mut self.inbox[card];
+        inbox.extend(next.filter(|message| has(message.to, card)));
+        self.taken[card] += 1;
+        let number = self.taken[card];
+        self.held[card].retain(|held| {
+            let released = held.tag == number;
+            if released {
+                inbox.push_back(held.message);
+            }
+            !released
+        });
+    }
+
+    pub fn may_take_single(&self, task: TaskNumber) -> Result<(), Refusal> {
+        // "32 nothing of that task in flight."
+        let single = self.flight[task].ok_or(32)?;
+        let card = single.destination();
+        let room = if single.tag <= self.taken[card] {
+            self.inbox[card].len() < INBOX
+        } else {
+            self.held[card].len() < HELD
+        };
+        if room {
+            Ok(())
+        } else {
+            Err(6)
+        }
+    }
+
+    /// "the named task's message in flight reaches its destination. A tag at most the number
+    /// taken there joins the inbox; a larger one is held."
+    pub fn take_single(&mut self, task: TaskNumber) {
+        let Some(single) = self.flight[task].take() else {
+            return;
+        };
+        let card = single.destination();
+        if single.tag <= self.taken[card] {
+            self.inbox[card].push_back(single.message);
+        } else {
+            self.held[card].push(single);
+        }
+    }
+}
+
+#[cfg(test)]
+mod tests {
+    use super::*;
+
+    fn single(task: TaskNumber, to: Cards) -> Message {
+        let body = Body::Reply { value: task as u32 };
+        Message { task, to, body }
+    }
+
+    /// Held messages join behind their broadcast, in order of arrival, each with its number.
+    #[test]
+    fn held_messages_follow_their_broadcast() {
+        let mut channel = Channel::new(2, 16);
+        for task in 0..3 {
+            channel.send(0, single(task, 3));
+            channel.dispatch(0);
+        }
+        // Tags 1, 2, 1 arrive in the order of tasks 5, 4, 3.
+        for (task, tag) in [(5, 1), (4, 2), (3, 1)] {
+            let message = single(task, 2);
+            channel.flight[task] = Some(Tagged { message, tag });
+            assert_eq!(channel.may_take_single(task), Ok(()));
+            channel.take_single(task);
+        }
+        assert_eq!(channel.held[1].len(), 3);
+        for _ in 0..3 {
+            assert_eq!(channel.may_take_broadcast(1), Ok(()));
+            channel.take_broadcast(1);
+        }
+        let order: Vec<_> = channel.inbox[1].iter().map(|m| m.task).collect();
+        assert_eq!(order, [0, 5, 3, 1, 4, 2]);
+        assert!(channel.held[1].is_empty());
+        assert_eq!(channel.may_take_broadcast(1), Err(31));
+    }
+
+    /// A card that is no destination drops the broadcast, counts it and releases.
+    #[test]
+    fn no_destination_still_counts() {
+        let mut channel = Channel::new(3, 1);
+        channel.send(0, single(0, 3));
+        channel.dispatch(0);
+        channel.held[2].push(Tagged {
+            message: single(0, 4),
+            tag: 1,
+        });
+        channel.take_broadcast(2);
+        assert_eq!(channel.taken[2], 1);
+        assert_eq!(channel.inbox[2].len(), 1);
+        assert!(!channel.inbox[2][0].is_broadcast());
+    }
+
+    #[test]
+    fn outcome_six() {
+        let mut channel = Channel::new(2, 16);
+        channel.outbox[0] = vec![single(0, 2); OUTBOX].into();
+        assert_eq!(channel.may_send(0, 2), Err(6), "17th in an outbox");
+        assert_eq!(channel.may_send(1, 0), Err(6), "a message to nobody");
+        channel.dispatch(0);
+        assert_eq!(channel.may_dispatch(0), Err(6), "a second in flight");
+        channel.inbox[1] = vec![single(1, 2); INBOX].into();
+        assert_eq!(channel.may_take_single(0), Err(6), "49th in an inbox");
+        channel.inbox[1].clear();
+        channel.flight[0].as_mut().unwrap().tag = 1;
+        channel.held[1] = vec![channel.flight[0].unwrap(); HELD];
+        assert_eq!(channel.may_take_single(0), Err(6), "17th held");
+        channel.made = 1;
+        channel.recent.push_back(single(0, 3));
+        channel.inbox[1] = vec![single(1, 2); 32].into();
+        assert_eq!(channel.may_take_broadcast(1), Err(6), "49th by release");
+        channel.inbox[1].pop_front();
+        assert_eq!(channel.may_take_broadcast(1), Ok(()));
+        channel.made = BROADCASTS;
+        channel.taken = vec![BROADCASTS; 2];
+        channel.outbox[0].push_front(single(0, 3));
+        assert_eq!(channel.may_dispatch(0), Err(6), "broadcast 65,536");
+        channel.taken[1] = BROADCASTS - BEHIND;
+        assert_eq!(channel.may_dispatch(0), Err(34), "34 before 6");
+    }
+}
