@@ -75,4 +75,5 @@ pub mod FitQueues
 pub mod FitKept
 -- Any list of calls on a memory
 pub mod ChannelLaw
+pub mod Offered
 pub mod MemoryExamples

@@ -36,6 +36,12 @@ unfolding listing
 listing-length f zero = refl
 listing-length f (suc n) = length-append (listing f n) (f n ∷ []) ∙ (let h = listing-length f n in omega arith)
 
+-- what stands at place k
+pub listing-at {ℓ} : {A : Type ℓ} (f : ℕ → A) (n k : ℕ) (d : A) → k < n → getD (listing f n) k d ≡ f k
+listing-at f zero k d h = absurd (omega arith)
+listing-at f (suc n) zero d h = rw (listing-cons f n)
+listing-at f (suc n) (suc k) d h = rw (listing-cons f n) (listing-at (λ m. f (suc m)) n k d (omega arith))
+
 -- n elements of a ring of c slots, oldest at h
 abbrev pub ring {ℓ} : {A : Type ℓ} → (ℕ → A) → ℕ → ℕ → ℕ → List A
 ring slot c h n = listing (λ k. slot ((h + k) % c)) n

@@ -1,0 +1,131 @@
+-- What a layer above may rely on, in the words of the definitions that the functions' contracts cite.
+use Prim.Native.Nat.{ℕ, zero, suc, _+_, _<_, _≤_, _^_}
+use mathlib.Core.Path.{_≡_, refl, _∙_}
+use mathlib.Core.Bool.{true}
+use mathlib.Core.List.{List, [], _∷_}
+use mathlib.Core.Option.{some}
+use native.Mathlib.Omega.{arith}
+use borrow.Author.Tests.{ltb-true, leb-true, lt-ltb, le-leb}
+use lib.Dec.{ltb, leb}
+use lib.ListN.{length}
+use Rattle.lists.specs.Tests.{and-fst, and-snd, and-intro}
+use Rattle.lists.specs.Conjunctions.{and-five}
+use Rattle.lists.specs.Listings.{listing, listing-zero, listing-cons, listing-length}
+use Rattle.names.specs.declared.Card.{Card}
+use Rattle.names.specs.declared.Letter.{Letter}
+use Rattle.names.specs.CardSet.{memberOf}
+use Rattle.names.specs.Letters.{letterAt, known}
+use Rattle.channel.specs.State.{ChannelState, nth}
+use Rattle.channel.specs.Layout.{broadcastBlock, cardsOf, tasksOf, registersOf, madeOf, takenOf, countOf, placeOf}
+use Rattle.channel.specs.Letters.{addressed, fits}
+use Rattle.channel.specs.Begin.{sizesFit, beginMemory}
+use Rattle.channel.specs.Inbox.{receiveAnswer}
+use Rattle.channel.specs.Sized.{inboxFits, blockFits, wellSized}
+use Rattle.channel.specs.Shows.{inboxOf, heldOf, flightOf, Shows}
+use Rattle.channel.specs.MemoryCalls.{SameSizes, memoryAfter, handedUp}
+use Rattle.channel.proofs.SizedFacts.{registers-words}
+use Rattle.channel.proofs.WellSizedParts.{Fit, fit-of}
+use Rattle.channel.proofs.FitKept.{sized-of}
+use Rattle.channel.proofs.FitQueues.{block-letter}
+use Rattle.channel.proofs.Receiving.{receive-answer}
+use Rattle.channel.proofs.ChannelLaw.{channel-follows}
+
+pub registers-most : (ws : List ℕ) → registersOf ws ≤ 32
+unfolding registersOf
+registers-most ws = omega arith
+
+pub same-registers : (us ws : List ℕ) → SameSizes us ws → registersOf us ≡ registersOf ws
+same-registers us ws s = registers-words us ws (s .registers)
+
+-- ---- letters that fit
+
+pub record Fits (ws : List ℕ) (l : Letter) : Type 0 where
+  pub task : l .message .task .0 < tasksOf ws
+  pub register : l .message .register .0 < registersOf ws
+  pub body : known (l .message .body) ≡ true
+  pub sender : l .from .0 < cardsOf ws
+  pub someone : 1 ≤ l .to
+  pub present : l .to < 2 ^ cardsOf ws
+
+pub fits-is : (ws : List ℕ) (l : Letter) → fits ws l ≡ true → Fits ws l
+unfolding fits addressed
+fits-is ws l e =
+    let u = and-five (ltb (l .message .task .0) (tasksOf ws)) (ltb (l .message .register .0) (registersOf ws)) (known (l .message .body)) (ltb (l .from .0) (cardsOf ws))
+    (addressed ws (l .to)) e in
+    record {
+      task = ltb-true _ _ (u .0);
+      register = ltb-true _ _ (u .1);
+      body = u .2;
+      sender = ltb-true _ _ (u .3);
+      someone = leb-true _ _ (and-fst (leb 1 (l .to)) (ltb (l .to) (2 ^ cardsOf ws)) (u .4));
+      present = ltb-true _ _ (and-snd (leb 1 (l .to)) (ltb (l .to) (2 ^ cardsOf ws)) (u .4));
+    }
+
+pub fits-of : (ws : List ℕ) (l : Letter) → Fits ws l → fits ws l ≡ true
+unfolding fits addressed
+fits-of ws l f =
+    and-intro (and-intro (and-intro (and-intro (lt-ltb _ _ (f .task)) (lt-ltb _ _ (f .register))) (f .body)) (lt-ltb _ _ (f .sender)))
+    (and-intro (le-leb _ _ (f .someone)) (lt-ltb _ _ (f .present)))
+
+-- ---- a well-sized memory
+
+module _ (ws : List ℕ) (w : ChannelState Letter) (long : length ws ≡ 4808) (ok : wellSized ws ≡ true) (v : Shows ws w) where
+  -- what receiving finds
+  pub hands : (card : Card) → card .0 < cardsOf ws → receiveAnswer ws card ≡ handedUp (w .inbox (card .0))
+  hands card h = receive-answer ws w (sized-of ws long (fit-of ws ok)) v card ∙ rw (lt-ltb (card .0) (cardsOf ws) h)
+
+  -- the head of an inbox fits
+  pub head-fits : (i : ℕ) → i < cardsOf ws → (l : Letter) (r : List Letter) → w .inbox i ≡ l ∷ r → fits ws l ≡ true
+  unfolding inboxOf inboxFits
+  head-fits i h l r e = go (countOf ws i) refl
+    where
+      f : Fit ws
+      f = fit-of ws ok
+
+      go : (n : ℕ) → countOf ws i ≡ n → fits ws l ≡ true
+      go zero c =
+          let z : inboxOf ws i ≡ [] = rw c (listing-zero _) in
+          let q : _≡_ {A = ℕ} 0 1 = cc (v .inbox= i h, e, z) in
+          absurd (omega arith)
+      go (suc n) c =
+          let s : inboxOf ws i ≡ letterAt ws (placeOf ws i 0) ∷ listing (λ k. letterAt ws (placeOf ws i (suc k))) n = rw c (listing-cons _ n) in
+          let q : l ≡ letterAt ws (placeOf ws i 0) = cc (v .inbox= i h, e, s) in
+          rw q (block-letter ws (placeOf ws i 0)
+          (and-fst (blockFits ws (placeOf ws i 0)) (memberOf (letterAt ws (placeOf ws i 0) .to) i) (f .card i h .inbox 0 (omega arith))))
+
+-- ---- any memory shows a state
+
+nth-listing : (f : ℕ → Letter) (n k : ℕ) → k < n → nth (listing f n) k ≡ some (f k)
+nth-listing f zero k h = absurd (omega arith)
+nth-listing f (suc n) zero h = rw (listing-cons f n)
+nth-listing f (suc n) (suc k) h = rw (listing-cons f n) (nth-listing (λ m. f (suc m)) n k (omega arith))
+
+pub shown : (ws : List ℕ) → (w : ChannelState Letter) × Shows ws w
+shown ws = (
+  record {
+    sent = listing (λ n. letterAt ws (broadcastBlock (n + 1))) (madeOf ws);
+    taken = takenOf ws;
+    flight = flightOf ws;
+    held = heldOf ws;
+    inbox = inboxOf ws;
+  },
+  record {
+    made= = listing-length (λ n. letterAt ws (broadcastBlock (n + 1))) (madeOf ws);
+    sent= = λ n h g. nth-listing (λ n. letterAt ws (broadcastBlock (n + 1))) (madeOf ws) n h;
+    taken= = λ i h. refl;
+    flight= = λ t h. refl;
+    held= = λ i h. refl;
+    inbox= = λ i h. refl;
+  },
+)
+
+-- ---- a memory just begun
+
+module _ (ws : List ℕ) (cards tasks registers : ℕ) (ok : sizesFit cards tasks registers ≡ true) where
+  pub begun-sized : wellSized (beginMemory ws cards tasks registers) ≡ true
+  unfolding memoryAfter
+  begun-sized = channel-follows ws cards tasks registers ok [] .sized
+
+  pub begun-length : length (beginMemory ws cards tasks registers) ≡ 4808
+  unfolding memoryAfter
+  begun-length = channel-follows ws cards tasks registers ok [] .long

@@ -1,0 +1,25 @@
+-- What each change of the registers' memory does to what it shows, and that it keeps it well sized
+pub mod Words
+pub mod Showing
+pub mod Sizing
+-- The channel's calls as the registers see them
+pub mod OverChannel
+-- Each of the ten steps follows the published algorithm
+pub mod Standing
+pub mod RequestLaw
+pub mod PerformLaw
+pub mod Posting
+pub mod SendLaw
+pub mod TrafficLaw
+pub mod DeliverLaw
+pub mod DecodeLaw
+pub mod StepLaw
+-- The start
+pub mod Placed
+pub mod StartLaw
+-- Demands 2 and 3, and never 6
+pub mod SomeState
+pub mod Demand2
+pub mod Demand3
+pub mod NeverSix
+pub mod CheckedOnce

@@ -1,0 +1,198 @@
+-- Steps 6, 7 and 8.
+use Prim.Native.Nat.{ℕ, zero, suc, _+_, _%_, _<_}
+use mathlib.Core.Path.{_≡_, refl, sym, _∙_}
+use mathlib.Core.Bool.{true, false, _&&_}
+use mathlib.Core.List.{List, [], _∷_}
+use native.Mathlib.Omega.{arith}
+use borrow.Author.Tests.{lt-ltb, ne-eqb}
+use lib.Dec.{eqb, leb}
+use lib.ListN.{length}
+use Rattle.lists.specs.Tests.{and-snd}
+use Rattle.lists.specs.Listings.{listing-zero}
+use Rattle.names.specs.declared.Card.{Card}
+use Rattle.names.specs.declared.Task.{Task}
+use Rattle.names.specs.declared.Letter.{Letter}
+use Rattle.names.specs.Letters.{kindAt}
+use Rattle.names.specs.Placement.{Placement}
+use Rattle.channel.specs.State.{ChannelState, channelStep}
+use Rattle.channel.specs.State as C
+use Rattle.channel.specs.Refusals.{channelRefusal}
+use Rattle.channel.specs.Layout.{cardsOf, tasksOf, registersOf}
+use Rattle.channel.specs.Letters.{fits}
+use Rattle.channel.specs.Answers.{answerNumber}
+use Rattle.channel.specs.Dispatch.{letterOf}
+use Rattle.channel.specs.TakeBroadcast.{takeAnswer, takeMemory}
+use Rattle.channel.specs.TakeSingle.{singleAnswer, singleMemory}
+use Rattle.channel.specs.Sized.{wellSized}
+use Rattle.channel.specs.MemoryCalls.{Call, dispatchCall, takeBroadcastCall, takeSingleCall, callNumber, callMemory, actionOf, absent, unfit, SameSizes}
+use Rattle.channel.proofs.SizedFacts.{cards-most, tasks-most}
+use Rattle.channel.proofs.WellSizedParts.{same-cards, same-tasks, fits-same}
+use Rattle.channel.proofs.Offered.{registers-most, same-registers}
+use Rattle.claims.specs.Command.{dispatch, takeBroadcast, takeSingle}
+use Rattle.claims.specs.Steps.{good}
+use Rattle.claims.specs.Published.{Published, mail, withChannel, dispatching}
+use Rattle.claims.specs.Published as Pub
+use Rattle.store.specs.declared.Doing.{Doing}
+use Rattle.store.specs.declared.Doing.the-variants.{Quiet, AskingRead, AskingUpdate, Waiting, DoneRead, DoneUpdate}
+use Rattle.store.specs.Doings.{doingAt}
+use Rattle.store.specs.Outbox.{outHeadOf, outCountOf, outPlace, firstOut, unposted}
+use Rattle.store.specs.Traffic.{dispatchNumber, dispatchRegisters, dispatchChannel}
+use Rattle.store.specs.Sized.{doingFits, outgoing, outFits}
+use Rattle.store.specs.Step.{outcome}
+use Rattle.store.specs.Shows.{plain, outboxOf, RegistersShow, ChannelShows}
+use Rattle.store.specs.Demand2.{StepFollows}
+use Rattle.store.proofs.Words.{unposted-long, unpost-drops}
+use Rattle.store.proofs.Showing.{unpost-show}
+use Rattle.store.proofs.Sizing.{RegistersFit, unpost-fit}
+use Rattle.store.proofs.OverChannel.{Passes, passes}
+use Rattle.store.proofs.Standing.{Ready, follows}
+
+-- ---- another channel's memory of the same sizes
+
+doing-same : (ds cs : List ℕ) → SameSizes ds cs → (d : Doing) → doingFits ds d ≡ doingFits cs d
+unfolding doingFits
+doing-same ds cs e Quiet = refl
+doing-same ds cs e (AskingRead x) = rw (same-registers ds cs e)
+doing-same ds cs e (AskingUpdate x f w) = rw (same-registers ds cs e)
+doing-same ds cs e Waiting = refl
+doing-same ds cs e (DoneRead v) = refl
+doing-same ds cs e DoneUpdate = refl
+
+out-same : (rs ds cs : List ℕ) → SameSizes ds cs → (i k : ℕ) → outFits rs ds i k ≡ outFits rs cs i k
+unfolding outFits
+out-same rs ds cs e i k = rw (fits-same ds cs e (outgoing rs i (outPlace rs i k)))
+
+pub fit-sizes : (rs ds cs : List ℕ) → SameSizes ds cs → RegistersFit rs cs → RegistersFit rs ds
+fit-sizes rs ds cs e f =
+    let c = same-cards ds cs e in
+    let t = same-tasks ds cs e in
+    let r = same-registers ds cs e in
+    record {
+      requests = f .requests;
+      home = λ a h. rw c (f .home a (rw t at h));
+      kind = λ a h. f .kind a (rw t at h);
+      doing = λ a h. doing-same ds cs e (doingAt rs a) ∙ f .doing a (rw t at h);
+      holders = λ x h. rw c (f .holders x (rw r at h));
+      primary = λ x h. rw c (f .primary x (rw r at h));
+      head = λ i h. f .head i (rw c at h);
+      count = λ i h. f .count i (rw c at h);
+      out = λ i k h g. out-same rs ds cs e i k ∙ f .out i k (rw c at h) g;
+    }
+
+-- memories whose channel is another of the same sizes
+pub channel-ready : (rs us cs ds : List ℕ) (P : Placement) (s u : Published) → Ready rs cs P s → length us ≡ 1544 → RegistersFit us cs
+    → RegistersShow us (cardsOf cs) (tasksOf cs) (registersOf cs) P u
+    → wellSized ds ≡ true → length ds ≡ 4808 → SameSizes ds cs → ChannelShows ds (u .channel) → Ready us ds P u
+channel-ready rs us cs ds P s u z l f v ok dl e w =
+    let c = same-cards ds cs e in
+    let t = same-tasks ds cs e in
+    let r = same-registers ds cs e in
+    record {
+      long = l;
+      channel-long = dl;
+      fit = fit-sizes us ds cs e f;
+      channel-fit = ok;
+      cards= = z .cards= ∙ sym c;
+      tasks= = z .tasks= ∙ sym t;
+      registers= = z .registers= ∙ sym r;
+      show = rw (c, t, r) v;
+      channel-shows = w;
+    }
+
+module _ (rs cs : List ℕ) (P : Placement) (s : Published) (z : Ready rs cs P s) where
+  -- the registers as they were, and a channel's call taken
+  called : (c : Call) → absent cs (actionOf c) ≡ 0 → unfit cs (actionOf c) ≡ 0 → Passes cs (s .channel) c
+  called c a b = passes cs (s .channel) (z .channel-long) (z .channel-fit) (z .channel-shows) c a b
+
+  called-ready : (c : Call) (k : Passes cs (s .channel) c) (w : ChannelState Pub.Letter) → ChannelShows (callMemory cs c) w → Ready rs (callMemory cs c) P (withChannel s w)
+  called-ready c k w v =
+      channel-ready rs rs cs (callMemory cs c) P s (withChannel s w) z (z .long) (z .fit)
+      (record {
+        home= = z .show .home=;
+        holders= = z .show .holders=;
+        primary= = z .show .primary=;
+        requests= = z .show .requests=;
+        status= = z .show .status=;
+        table= = z .show .table=;
+        out= = z .show .out=;
+      })
+      (k .sized) (k .long) (k .sizes) v
+
+  -- ---- steps 7 and 8
+
+  pub take-broadcast-follows : (i : Card) → i .0 < cardsOf cs → StepFollows rs cs P s (outcome (answerNumber (takeAnswer cs i)) rs (takeMemory cs i)) (good (takeBroadcast (i .0)))
+  unfolding callNumber callMemory channelRefusal
+  take-broadcast-follows i h =
+      let k = called (takeBroadcastCall i) (rw (lt-ltb (i .0) (cardsOf cs) h)) refl in
+      follows rs cs P s z (answerNumber (takeAnswer cs i)) rs (takeMemory cs i) (takeBroadcast (i .0)) refl
+      (rw (z .cards=) (k .number))
+      (λ n. called-ready (takeBroadcastCall i) k _ (k .shows n))
+      (λ n. (refl, k .untouched n))
+
+  pub take-single-follows : (t : Task) → t .0 < tasksOf cs → StepFollows rs cs P s (outcome (answerNumber (singleAnswer cs t)) rs (singleMemory cs t)) (good (takeSingle (t .0)))
+  unfolding callNumber callMemory channelRefusal
+  take-single-follows t h =
+      let k = called (takeSingleCall t) (rw (lt-ltb (t .0) (tasksOf cs) h)) refl in
+      follows rs cs P s z (answerNumber (singleAnswer cs t)) rs (singleMemory cs t) (takeSingle (t .0)) refl
+      (rw (z .cards=) (k .number))
+      (λ n. called-ready (takeSingleCall t) k _ (k .shows n))
+      (λ n. (refl, k .untouched n))
+
+  -- ---- step 6
+
+  module _ (i : Card) (card : i .0 < cardsOf cs) where
+    -- an empty outbox
+    out-none : outCountOf rs (i .0) ≡ 0 → s .out (i .0) ≡ []
+    unfolding outboxOf
+    out-none e = z .show .out= (i .0) card ∙ rw e (listing-zero _)
+
+    -- its head
+    out-head : (n : ℕ) → outCountOf rs (i .0) ≡ suc n → s .out (i .0) ≡ plain (firstOut rs (i .0)) ∷ outboxOf (unposted rs (i .0)) (i .0)
+    out-head n e = z .show .out= (i .0) card ∙ unpost-drops rs (i .0) (z .long) n e
+
+    -- which fits
+    head-goes : (n : ℕ) → outCountOf rs (i .0) ≡ suc n → fits cs (letterOf i (firstOut rs (i .0) .message) (firstOut rs (i .0) .to)) ≡ true
+    unfolding outFits firstOut
+    head-goes n e =
+        let m : (outHeadOf rs (i .0) % 16 + 0) % 16 ≡ outHeadOf rs (i .0) % 16 = omega arith in
+        rw m at (and-snd (leb 1 (kindAt rs (outPlace rs (i .0) 0)) && leb (kindAt rs (outPlace rs (i .0) 0)) 4) (fits cs (outgoing rs (i .0) (outPlace rs (i .0) 0))) (z .fit .out (i .0) 0 card (omega arith)))
+
+    abbrev first : Letter
+    first = firstOut rs (i .0)
+
+    abbrev call : Call
+    call = dispatchCall i (first .message) (first .to)
+
+    head-called : (n : ℕ) → outCountOf rs (i .0) ≡ suc n → Passes cs (s .channel) call
+    head-called n e = called call (rw (lt-ltb (i .0) (cardsOf cs) card)) (rw (head-goes n e))
+
+    -- the head gone, and dispatched
+    dispatched : (n : ℕ) (e : outCountOf rs (i .0) ≡ suc n) → callNumber cs call ≡ 0
+        → Ready (unposted rs (i .0)) (callMemory cs call) P (dispatching P s (i .0) (plain first ∷ outboxOf (unposted rs (i .0)) (i .0)))
+    dispatched n e q =
+        let k = head-called n e in
+        channel-ready rs (unposted rs (i .0)) cs (callMemory cs call) P s (dispatching P s (i .0) (plain first ∷ outboxOf (unposted rs (i .0)) (i .0))) z
+        (unposted-long rs (i .0) (z .long) n e)
+        (unpost-fit rs cs (cards-most cs) (tasks-most cs) (registers-most cs) (z .long) (z .fit) (i .0) card n e)
+        (unpost-show rs (cardsOf cs) (tasksOf cs) (registersOf cs) (cards-most cs) (tasks-most cs) (registers-most cs) P s (z .long) (z .show) (channelStep mail (s .channel) (C.dispatch (i .0) (plain first))) (i .0) card n e)
+        (k .sized) (k .long) (k .sizes) (k .shows q)
+
+    pub dispatch-follows : StepFollows rs cs P s (outcome (dispatchNumber rs cs i) (dispatchRegisters rs cs i) (dispatchChannel rs cs i)) (good (dispatch (i .0)))
+    unfolding dispatchNumber dispatchRegisters dispatchChannel callNumber callMemory channelRefusal
+    dispatch-follows = go (outCountOf rs (i .0)) refl
+      where
+        go : (n : ℕ) → outCountOf rs (i .0) ≡ n → StepFollows rs cs P s (outcome (dispatchNumber rs cs i) (dispatchRegisters rs cs i) (dispatchChannel rs cs i)) (good (dispatch (i .0)))
+        go zero e =
+            follows rs cs P s z (dispatchNumber rs cs i) (dispatchRegisters rs cs i) (dispatchChannel rs cs i) (dispatch (i .0)) refl
+            (rw (e, out-none e)) (λ q. absurd (none q)) (λ q. rw e (refl, refl))
+          where
+            none : dispatchNumber rs cs i ≡ 0 → ⊥
+            none q = let r : _≡_ {A = ℕ} 30 0 = rw e at q in omega arith
+        go (suc n) e =
+            let k = head-called n e in
+            let f : eqb (outCountOf rs (i .0)) 0 ≡ false = ne-eqb (outCountOf rs (i .0)) 0 (omega arith) in
+            let number : dispatchNumber rs cs i ≡ callNumber cs call = rw f in
+            follows rs cs P s z (dispatchNumber rs cs i) (dispatchRegisters rs cs i) (dispatchChannel rs cs i) (dispatch (i .0)) refl
+            (rw (f, out-head n e, z .cards=) (k .number))
+            (λ q. rw (q, f, out-head n e) (dispatched n e (sym number ∙ q)))
+            (λ q. rw (ne-eqb (dispatchNumber rs cs i) 0 q, f) (refl, k .untouched (λ r. q (number ∙ r))))

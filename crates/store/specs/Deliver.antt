@@ -1,0 +1,70 @@
+-- Step 9: "Deliver the inbox head. Read: a reply to the task's card, with the value, joins this card's outbox. Update: applied; if the
+-- task's home is here it is done; if its home holds no copy and this card is primary, a reply joins likewise. Reply: the task is done."
+use Prim.Native.Nat.{ℕ, zero, suc}
+use mathlib.Core.Bool.{Bool, true, false, cond, _&&_, not}
+use mathlib.Core.List.{List}
+use lib.Dec.{eqb}
+use Rattle.names.specs.declared.Card.{Card}
+use Rattle.names.specs.declared.Body.{Body}
+use Rattle.names.specs.declared.Body.the-variants.{ReadDo, UpdateDo, ReadReply, UpdateReply}
+use Rattle.channel.specs.declared.Received.{Received}
+use Rattle.channel.specs.declared.Received.the-variants.{Got, NoSuchCard, Empty}
+use Rattle.channel.specs.Inbox.{receiveAnswer, receiveMemory}
+use Rattle.store.specs.declared.Doing.{Doing}
+use Rattle.store.specs.declared.Doing.the-variants.{DoneRead, DoneUpdate}
+use Rattle.store.specs.Layout.{homeOf, primaryOf, holds, copyOf, onlyCard}
+use Rattle.store.specs.Doings.{doingStored}
+use Rattle.store.specs.Outbox.{roomy, posted, letterFor}
+use Rattle.store.specs.Perform.{copyUpdated}
+
+-- Card i delivers a message of task t on register x.
+
+-- the reply of card i, to the task's card
+unfoldable pub replied : List ℕ → ℕ → ℕ → ℕ → Body → List ℕ
+replied ws i t x b = posted ws i (letterFor i t x b (onlyCard (homeOf ws t)))
+
+-- an update's reply is due here: "its home holds no copy and this card is primary"
+unfoldable pub repliesHere : List ℕ → ℕ → ℕ → ℕ → Bool
+repliesHere ws i t x = eqb i (primaryOf ws x) && not (holds ws x (homeOf ws t))
+
+-- "applied; if the task's home is here it is done"
+unfoldable pub applied : List ℕ → ℕ → ℕ → ℕ → ℕ → ℕ → List ℕ
+applied ws i t x f w =
+    cond (eqb i (homeOf ws t)) (doingStored (copyUpdated ws i x f w) t DoneUpdate) (copyUpdated ws i x f w)
+
+-- 6: the reply would be the 17th in the outbox
+unfoldable pub bodyNumber : List ℕ → ℕ → ℕ → ℕ → Body → ℕ
+bodyNumber ws i t x ReadDo = cond (roomy ws i) 0 6
+bodyNumber ws i t x (UpdateDo f w) = cond (repliesHere ws i t x) (cond (roomy ws i) 0 6) 0
+bodyNumber ws i t x (ReadReply v) = 0
+bodyNumber ws i t x UpdateReply = 0
+
+unfoldable pub bodyWords : List ℕ → ℕ → ℕ → ℕ → Body → List ℕ
+bodyWords ws i t x ReadDo = cond (roomy ws i) (replied ws i t x (ReadReply (copyOf ws i x))) ws
+bodyWords ws i t x (UpdateDo f w) =
+    cond (repliesHere ws i t x)
+    (cond (roomy ws i) (replied (applied ws i t x f w) i t x UpdateReply) ws)
+    (applied ws i t x f w)
+bodyWords ws i t x (ReadReply v) = doingStored ws t (DoneRead v)
+bodyWords ws i t x UpdateReply = doingStored ws t DoneUpdate
+
+-- 33 "inbox empty"; 14 an absent card
+unfoldable pub foundNumber : List ℕ → ℕ → Received → ℕ
+foundNumber ws i (Got m) = bodyNumber ws i (m .task .0) (m .register .0) (m .body)
+foundNumber ws i NoSuchCard = 14
+foundNumber ws i Empty = 33
+
+unfoldable pub foundWords : List ℕ → ℕ → Received → List ℕ
+foundWords ws i (Got m) = bodyWords ws i (m .task .0) (m .register .0) (m .body)
+foundWords ws i NoSuchCard = ws
+foundWords ws i Empty = ws
+
+unfoldable pub deliverNumber : List ℕ → List ℕ → Card → ℕ
+deliverNumber rs cs card = foundNumber rs (card .0) (receiveAnswer cs card)
+
+-- the registers' words, then the channel's
+unfoldable pub deliverRegisters : List ℕ → List ℕ → Card → List ℕ
+deliverRegisters rs cs card = foundWords rs (card .0) (receiveAnswer cs card)
+
+unfoldable pub deliverChannel : List ℕ → List ℕ → Card → List ℕ
+deliverChannel rs cs card = cond (eqb (deliverNumber rs cs card) 0) (receiveMemory cs card) cs

@@ -1,0 +1,46 @@
+-- Steps 1 and 2: "the quiet task now asks". Step 10: "a done task becomes quiet".
+use Prim.Native.Nat.{ℕ, zero, suc, _+_}
+use mathlib.Core.Bool.{Bool, true, false, cond}
+use mathlib.Core.List.{List}
+use lib.Dec.{eqb, ltb}
+use lib.ListN.{set}
+use Rattle.names.specs.declared.Answer.{Answer}
+use Rattle.store.specs.declared.Doing.{Doing}
+use Rattle.store.specs.declared.Doing.the-variants.{Quiet, AskingRead, AskingUpdate, Waiting, DoneRead, DoneUpdate}
+use Rattle.store.specs.Layout.{requestsWord, requestsOf}
+use Rattle.store.specs.Doings.{doingAt, doingStored}
+
+-- an answer without a value
+abbrev pub bare : ℕ → Answer
+bare n = record { result = n; value = 0 }
+
+unfoldable pub isQuiet : Doing → Bool
+isQuiet Quiet = true
+isQuiet (AskingRead x) = false
+isQuiet (AskingUpdate x f w) = false
+isQuiet Waiting = false
+isQuiet (DoneRead v) = false
+isQuiet DoneUpdate = false
+
+-- 20 "request while not quiet"; 23 "a request after 65,535 taken"
+unfoldable pub requestNumber : List ℕ → ℕ → ℕ
+requestNumber ws t = cond (isQuiet (doingAt ws t)) (cond (ltb (requestsOf ws) 65535) 0 23) 20
+
+-- the new words where the step is taken, else the old
+unfoldable pub requestWords : List ℕ → ℕ → Doing → List ℕ
+requestWords ws t d = cond (eqb (requestNumber ws t) 0) (set (doingStored ws t d) requestsWord (requestsOf ws + 1)) ws
+
+-- 21 "not done (10)"; "the value read for a taken report of a read and 0 otherwise"
+unfoldable pub reportOf : Doing → Answer
+reportOf Quiet = bare 21
+reportOf (AskingRead x) = bare 21
+reportOf (AskingUpdate x f w) = bare 21
+reportOf Waiting = bare 21
+reportOf (DoneRead v) = record { result = 0; value = v }
+reportOf DoneUpdate = bare 0
+
+unfoldable pub reportAnswer : List ℕ → ℕ → Answer
+reportAnswer ws t = reportOf (doingAt ws t)
+
+unfoldable pub reportWords : List ℕ → ℕ → List ℕ
+reportWords ws t = cond (eqb (reportAnswer ws t .result) 0) (doingStored ws t Quiet) ws

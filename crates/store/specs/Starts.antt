@@ -1,0 +1,30 @@
+-- What a start makes (01, "Who can cause which refusal": "A start made from a placement without a file meets 3, then 4, and no state is
+-- begun"; "No state reached by calls from a start ever gives 6").
+use mathlib.Core.Path.{_≡_}
+use mathlib.Core.Logic.{_≢_}
+use mathlib.Core.Bool.{true}
+use mathlib.Core.List.{List}
+use Rattle.names.specs.Placement.{Placement, placementRefusal}
+use Rattle.claims.specs.Steps.{RawStep}
+use Rattle.claims.specs.Published.{begin}
+use Rattle.store.specs.Sized.{storeSized}
+use Rattle.store.specs.Demand2.{Stands}
+use Rattle.store.specs.Run.{Store, started, storeAfter, answersOf, answer, advanceAll, answersAdvancing}
+
+pub record Starts : Type 0 where
+  -- an accepted placement: the memories are well sized and show it, at the beginning
+  pub accepted : (P : Placement) → placementRefusal P ≡ 0 → (m : Store) → Stands (started P m .registers) (started P m .channel) P begin
+  -- a refused one: both memories as they were
+  pub refused : (P : Placement) → placementRefusal P ≢ 0 → (m : Store) → started P m ≡ m
+
+-- after any list of steps from a start the state is well sized, and no step is refused with 6, for the state or for the outcome
+pub record NeverSix : Type 0 where
+  pub state : (P : Placement) → placementRefusal P ≡ 0 → (m : Store) (steps : List RawStep)
+      → storeSized (storeAfter (started P m) steps .registers) (storeAfter (started P m) steps .channel) ≡ true
+  pub outcome : (P : Placement) → placementRefusal P ≡ 0 → (m : Store) (steps : List RawStep) (a : RawStep)
+      → answer (storeAfter (started P m) steps) a .result ≢ 6
+
+-- A run from a start need not check the state: well-sizedness is kept, so steps that do not check it leave and answer the same.
+pub record CheckedOnce : Type 0 where
+  pub store : (P : Placement) → placementRefusal P ≡ 0 → (m : Store) (steps : List RawStep) → advanceAll (started P m) steps ≡ storeAfter (started P m) steps
+  pub answers : (P : Placement) → placementRefusal P ≡ 0 → (m : Store) (steps : List RawStep) → answersAdvancing (started P m) steps ≡ answersOf (started P m) steps

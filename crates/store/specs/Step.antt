@@ -1,0 +1,55 @@
+-- A step on the two memories, whatever they are: its answer, and both memories after it.
+use Prim.Native.Nat.{ℕ}
+use mathlib.Core.Bool.{Bool, true, false, cond}
+use mathlib.Core.List.{List}
+use Rattle.names.specs.declared.Answer.{Answer}
+use Rattle.channel.specs.Layout.{cardsOf, tasksOf, registersOf}
+use Rattle.channel.specs.Answers.{answerNumber}
+use Rattle.channel.specs.TakeBroadcast.{takeAnswer, takeMemory}
+use Rattle.channel.specs.TakeSingle.{singleAnswer, singleMemory}
+use Rattle.store.specs.declared.Doing.the-variants.{AskingRead, AskingUpdate}
+use Rattle.store.specs.declared.Command.{Command}
+use Rattle.store.specs.declared.Command.the-variants.{RequestRead, RequestUpdate, Perform, SendRead, SendUpdate, Dispatch, TakeBroadcast, TakeSingle, Deliver, Report}
+use Rattle.store.specs.declared.Decoded.{Decoded}
+use Rattle.store.specs.declared.Decoded.the-variants.{Good, Bad}
+use Rattle.store.specs.Requests.{bare, requestNumber, requestWords, reportAnswer, reportWords}
+use Rattle.store.specs.Perform.{performNumber, performWords}
+use Rattle.store.specs.Send.{readSentNumber, readSentWords, updateSentNumber, updateSentWords}
+use Rattle.store.specs.Traffic.{dispatchNumber, dispatchRegisters, dispatchChannel}
+use Rattle.store.specs.Deliver.{deliverNumber, deliverRegisters, deliverChannel}
+use Rattle.store.specs.Decode.{decodeOf}
+use Rattle.store.specs.Sized.{storeSized}
+
+pub record Outcome : Type 0 where
+  pub answer : Answer
+  pub registers : List ℕ
+  pub channel : List ℕ
+
+abbrev pub outcome : ℕ → List ℕ → List ℕ → Outcome
+outcome n rs cs = record { answer = bare n; registers = rs; channel = cs }
+
+-- a decoded step
+unfoldable pub taken : List ℕ → List ℕ → Command → Outcome
+taken rs cs (RequestRead t x) = outcome (requestNumber rs (t .0)) (requestWords rs (t .0) (AskingRead x)) cs
+taken rs cs (RequestUpdate t x f w) = outcome (requestNumber rs (t .0)) (requestWords rs (t .0) (AskingUpdate x f w)) cs
+taken rs cs (Perform t) = outcome (performNumber rs (t .0)) (performWords rs (t .0)) cs
+taken rs cs (SendRead t j) = outcome (readSentNumber rs (t .0) (j .0)) (readSentWords rs (t .0) (j .0)) cs
+taken rs cs (SendUpdate t) = outcome (updateSentNumber rs (t .0)) (updateSentWords rs (t .0)) cs
+taken rs cs (Dispatch i) = outcome (dispatchNumber rs cs i) (dispatchRegisters rs cs i) (dispatchChannel rs cs i)
+taken rs cs (TakeBroadcast i) = outcome (answerNumber (takeAnswer cs i)) rs (takeMemory cs i)
+taken rs cs (TakeSingle t) = outcome (answerNumber (singleAnswer cs t)) rs (singleMemory cs t)
+taken rs cs (Deliver i) = outcome (deliverNumber rs cs i) (deliverRegisters rs cs i) (deliverChannel rs cs i)
+taken rs cs (Report t) = record { answer = reportAnswer rs (t .0); registers = reportWords rs (t .0); channel = cs }
+
+-- 10 to 15: refused as it was decoded
+unfoldable pub obeyed : List ℕ → List ℕ → Decoded → Outcome
+obeyed rs cs (Good c) = taken rs cs c
+obeyed rs cs (Bad n) = outcome n rs cs
+
+-- a step as it is given
+unfoldable pub advanced : List ℕ → List ℕ → ℕ → List ℕ → Outcome
+advanced rs cs code argument = obeyed rs cs (decodeOf code argument (cardsOf cs) (registersOf cs) (tasksOf cs))
+
+-- "Step: 6 for the state, then rising number, then 6 for the outcome"
+unfoldable pub stepped : List ℕ → List ℕ → ℕ → List ℕ → Outcome
+stepped rs cs code argument = cond (storeSized rs cs) (advanced rs cs code argument) (outcome 6 rs cs)

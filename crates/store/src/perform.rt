@@ -1,0 +1,96 @@
+// Step 3: a task performs its request on its own card.
+ghost use mathlib.Core.Path.{_≡_};
+ghost use Rattle.store.specs.Perform.{alone, performReadNumber, performReadWords, performUpdateNumber, performUpdateWords, copyUpdated, performNumberOf, performWordsOf, performNumber, performWords};
+use super::doings::load;
+use super::doings::store;
+use super::layout::COPIES;
+use super::layout::card_place;
+use super::layout::copy;
+use super::layout::holders;
+use super::layout::holds;
+use super::layout::home;
+use super::layout::register_place;
+use crate::Doing;
+use names::Card;
+use names::Register;
+use names::Task;
+
+// Whether a card is the only holder of a register.
+pub(crate) fn alone(registers: &[u32; 1544], register: Register, card: Card) -> bool
+    ensures { λ r. ⌜ r ≡ alone (now (registers .entry)) (register .0) (card .0) ⌝ }
+{
+    if !holds(registers, register, card) {
+        return false;
+    }
+    !names::several(holders(registers, register))
+}
+
+fn perform_read(registers: &mut [u32; 1544], task: Task, register: Register) -> u8
+    ensures registers { λ _. ⌜ now (registers .exit) ≡ performReadWords (now (registers .entry)) (task .0) (register .0) ⌝ }
+    ensures number { λ r. ⌜ r ≡ performReadNumber (now (registers .entry)) (task .0) (register .0) ⌝ }
+{
+    let here = home(registers, task);
+    if !holds(registers, register, here) {
+        return 22;
+    }
+    let value = copy(registers, here, register);
+    store(registers, task, Doing::DoneRead(value));
+    0
+}
+
+// A card's copy of a register is updated.
+pub(crate) fn update_copy(
+    registers: &mut [u32; 1544],
+    card: Card,
+    register: Register,
+    function: u32,
+    operand: u32,
+)
+    ensures { λ _. ⌜ now (registers .exit) ≡ copyUpdated (now (registers .entry)) (card .0) (register .0) function operand ⌝ }
+{
+    let at = COPIES + card_place(card) * 32 + register_place(register);
+    let value = registers[at];
+    registers[at] = names::update(function, operand, value);
+}
+
+fn perform_update(
+    registers: &mut [u32; 1544],
+    task: Task,
+    register: Register,
+    function: u32,
+    operand: u32,
+) -> u8
+    ensures registers { λ _. ⌜ now (registers .exit) ≡ performUpdateWords (now (registers .entry)) (task .0) (register .0) function operand ⌝ }
+    ensures number { λ r. ⌜ r ≡ performUpdateNumber (now (registers .entry)) (task .0) (register .0) ⌝ }
+{
+    let here = home(registers, task);
+    if !alone(registers, register, here) {
+        return 22;
+    }
+    update_copy(registers, here, register, function, operand);
+    store(registers, task, Doing::DoneUpdate);
+    0
+}
+
+fn perform_doing(registers: &mut [u32; 1544], task: Task, doing: Doing) -> u8
+    ensures registers { λ _. ⌜ now (registers .exit) ≡ performWordsOf (now (registers .entry)) (task .0) doing ⌝ }
+    ensures number { λ r. ⌜ r ≡ performNumberOf (now (registers .entry)) (task .0) doing ⌝ }
+{
+    match doing {
+        Doing::Quiet => 21,
+        Doing::AskingRead(x) => perform_read(registers, task, x),
+        Doing::AskingUpdate(x, f, w) => perform_update(registers, task, x, f, w),
+        Doing::Waiting => 21,
+        Doing::DoneRead(_) => 21,
+        Doing::DoneUpdate => 21,
+    }
+}
+
+// Step 3.
+pub(crate) fn perform(registers: &mut [u32; 1544], task: Task) -> u8
+    ensures registers { λ _. ⌜ now (registers .exit) ≡ performWords (now (registers .entry)) (task .0) ⌝ }
+    ensures number { λ r. ⌜ r ≡ performNumber (now (registers .entry)) (task .0) ⌝ }
+{
+    let doing = load(registers, task);
+    perform_doing(registers, task, doing)
+}

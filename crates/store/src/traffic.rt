@@ -1,0 +1,44 @@
+// Steps 6, 7 and 8, which are the channel's but for the outbox.
+ghost use mathlib.Core.Path.{_≡_};
+ghost use Rattle.channel.specs.Answers.{answerNumber};
+ghost use Rattle.store.specs.Traffic.{dispatchNumber, dispatchRegisters, dispatchChannel};
+use super::outbox::count;
+use super::outbox::first;
+use super::outbox::unpost;
+use names::Card;
+
+// Document 01's number of the channel's answer.
+pub(crate) fn number_of(answer: channel::Answer) -> u8
+    ensures { λ r. ⌜ r ≡ answerNumber answer ⌝ }
+{
+    match answer {
+        channel::Answer::Done => 0,
+        channel::Answer::BadSize => 3,
+        channel::Answer::IllSized => 6,
+        channel::Answer::NoTask => 12,
+        channel::Answer::NoCard => 14,
+        channel::Answer::NoBroadcast => 31,
+        channel::Answer::NoneInFlight => 32,
+        channel::Answer::FarBehind => 34,
+        channel::Answer::Crowded => 35,
+    }
+}
+
+// Step 6: the head of a card's outbox goes to the channel.
+pub(crate) fn dispatch(registers: &mut [u32; 1544], channel: &mut [u32; 4808], card: Card) -> u8
+    ensures registers { λ _. ⌜ now (registers .exit) ≡ dispatchRegisters (now (registers .entry)) (now (channel .entry)) card ⌝ }
+    ensures channel { λ _. ⌜ now (channel .exit) ≡ dispatchChannel (now (registers .entry)) (now (channel .entry)) card ⌝ }
+    ensures number { λ r. ⌜ r ≡ dispatchNumber (now (registers .entry)) (now (channel .entry)) card ⌝ }
+{
+    if count(registers, card) == 0 {
+        return 30;
+    }
+    let letter = first(registers, card);
+    let message = letter.message;
+    let number = number_of(channel::dispatch(channel, card, message, letter.to));
+    if number == 0 {
+        unpost(registers, card);
+        return number;
+    }
+    number
+}
