@@ -1,0 +1,83 @@
+use borrow.Author.Tests.{lt-ltb, le-ltb, le-leb, lt-leb}
+use Rattle.lists.specs.Tests.{cases}
+use Rattle.store.specs.Sized.{doingFits}
+use borrow.Author.Needs.{needs}
+use Rattle.store.proofs.sized.doing_fits.Statement.{statement}
+use Rattle.store.proofs.sized.doing_fits.Tie as tie
+
+enum-told : tie.Need-enum-told
+enum-told c = search needs
+
+enum-known-doing : tie.Need-enum-known-doing
+enum-known-doing c = search needs
+
+registers-requires : tie.Need-registers-requires
+registers-requires c κs = search needs
+
+enum-known-doing-2 : tie.Need-enum-known-doing-2
+enum-known-doing-2 c = search needs
+
+registers-requires-2 : tie.Need-registers-requires-2
+registers-requires-2 c κs = search needs
+
+returns : tie.Need-returns
+unfolding doingFits
+returns c = let z = rw (c .before .before .registers2 .ensures .0) at (le-ltb _ _ (c .if1 .taken)) in rw (c .before .before .before .before .doing2 .given .1) (simp z)
+
+returns-2 : tie.Need-returns-2
+unfolding doingFits
+returns-2 c = let z = rw (c .before .before .before .registers2 .ensures .0) at (lt-ltb _ _ (c .before .if1 .left)) in rw (c .before .before .before .before .before .doing2 .given .1) (simp (z, lt-leb _ _ (c .if2 .taken)))
+
+enum-told-2 : tie.Need-enum-told-2
+enum-told-2 c = search needs
+
+enum-told-3 : tie.Need-enum-told-3
+enum-told-3 c = search needs
+
+enum-told-4 : tie.Need-enum-told-4
+enum-told-4 c = search needs
+
+returns-3 : tie.Need-returns-3
+unfolding doingFits
+returns-3 c = search (needs, cases)
+
+returns-4 : tie.Need-returns-4
+unfolding doingFits
+returns-4 c = rw (c .before .before .before .doing .given .1) (simp (c .before .registers .ensures .0))
+
+returns-5 : tie.Need-returns-5
+unfolding doingFits
+returns-5 c = let z = rw (c .before .before .before .registers2 .ensures .0) at (lt-ltb _ _ (c .before .if1 .left)) in rw (c .before .before .before .before .before .doing2 .given .1) (simp (z, le-leb _ _ (c .if2 .left)))
+
+returns-6 : tie.Need-returns-6
+unfolding doingFits
+returns-6 c = search (needs, cases)
+
+returns-7 : tie.Need-returns-7
+unfolding doingFits
+returns-7 c = search (needs, cases)
+
+returns-8 : tie.Need-returns-8
+unfolding doingFits
+returns-8 c = search (needs, cases)
+
+pub doing-fits-spec : {M : Type 1} → statement M
+doing-fits-spec =
+    tie.close
+    (tie.spec
+    enum-told
+    enum-known-doing
+    registers-requires
+    enum-known-doing-2
+    registers-requires-2
+    returns
+    returns-2
+    enum-told-2
+    enum-told-3
+    enum-told-4
+    returns-3
+    returns-4
+    returns-5
+    returns-6
+    returns-7
+    returns-8)
