@@ -6,12 +6,16 @@ use names::Task;
 
 mod asking;
 mod begin;
+mod decode;
+mod deliver;
 mod doings;
 mod layout;
 mod outbox;
 mod panel;
 mod perform;
+mod send;
 mod sized;
+mod steps;
 mod traffic;
 
 pub use begin::start;
@@ -19,6 +23,8 @@ pub use panel::doing_of;
 pub use panel::requests;
 pub use panel::value;
 pub use sized::well_sized;
+pub use steps::advance;
+pub use steps::step;
 
 // What a task is doing (000, Figure 5: status).
 pub enum Doing {

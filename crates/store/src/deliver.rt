@@ -1,0 +1,162 @@
+// Step 9: the head of a card's inbox is delivered.
+ghost use mathlib.Core.Path.{_≡_};
+ghost use Rattle.names.specs.declared.Body.the-variants.{ReadDo, UpdateDo};
+ghost use Rattle.channel.specs.declared.Received.the-variants.{Got};
+ghost use Rattle.store.specs.Doings.{doingStored};
+ghost use Rattle.store.specs.Deliver.{replied, repliesHere, applied, bodyNumber, bodyWords, foundNumber, foundWords, deliverNumber, deliverRegisters, deliverChannel};
+use super::doings::store;
+use super::layout::copy;
+use super::layout::holds;
+use super::layout::home;
+use super::layout::only;
+use super::layout::primary;
+use super::outbox::post;
+use super::outbox::roomy;
+use super::perform::update_copy;
+use super::send::letter_for;
+use crate::Doing;
+use channel::Received;
+use names::Body;
+use names::Card;
+use names::Message;
+use names::Register;
+use names::Task;
+
+// A card's reply to a task's card joins its outbox.
+fn reply(registers: &mut [u32; 1544], card: Card, task: Task, register: Register, body: Body)
+    ensures { λ _. ⌜ now (registers .exit) ≡ replied (now (registers .entry)) (card .0) (task .0) (register .0) body ⌝ }
+{
+    let to = only(home(registers, task));
+    let letter = letter_for(card, task, register, body, to);
+    post(registers, card, letter);
+}
+
+// Whether a card owes the reply to an update.
+fn replies(registers: &[u32; 1544], card: Card, task: Task, register: Register) -> bool
+    ensures { λ r. ⌜ r ≡ repliesHere (now (registers .entry)) (card .0) (task .0) (register .0) ⌝ }
+{
+    if card.0 != primary(registers, register).0 {
+        return false;
+    }
+    !holds(registers, register, home(registers, task))
+}
+
+// An update is applied on a card; if the task's home is here, it is done.
+fn apply(
+    registers: &mut [u32; 1544],
+    card: Card,
+    task: Task,
+    register: Register,
+    function: u32,
+    operand: u32,
+)
+    ensures { λ _. ⌜ now (registers .exit) ≡ applied (now (registers .entry)) (card .0) (task .0) (register .0) function operand ⌝ }
+{
+    let here = home(registers, task);
+    update_copy(registers, card, register, function, operand);
+    if card.0 == here.0 {
+        store(registers, task, Doing::DoneUpdate);
+        return;
+    }
+}
+
+// A read: a reply with the value.
+fn deliver_read(registers: &mut [u32; 1544], card: Card, task: Task, register: Register) -> u8
+    ensures registers { λ _. ⌜ now (registers .exit) ≡ bodyWords (now (registers .entry)) (card .0) (task .0) (register .0) ReadDo ⌝ }
+    ensures number { λ r. ⌜ r ≡ bodyNumber (now (registers .entry)) (card .0) (task .0) (register .0) ReadDo ⌝ }
+{
+    if !roomy(registers, card) {
+        return 6;
+    }
+    let value = copy(registers, card, register);
+    reply(registers, card, task, register, Body::ReadReply(value));
+    0
+}
+
+// An update.
+fn deliver_update(
+    registers: &mut [u32; 1544],
+    card: Card,
+    task: Task,
+    register: Register,
+    function: u32,
+    operand: u32,
+) -> u8
+    ensures registers { λ _. ⌜ now (registers .exit) ≡ bodyWords (now (registers .entry)) (card .0) (task .0) (register .0) (UpdateDo function operand) ⌝ }
+    ensures number { λ r. ⌜ r ≡ bodyNumber (now (registers .entry)) (card .0) (task .0) (register .0) (UpdateDo function operand) ⌝ }
+{
+    if !replies(registers, card, task, register) {
+        apply(registers, card, task, register, function, operand);
+        return 0;
+    }
+    if !roomy(registers, card) {
+        return 6;
+    }
+    apply(registers, card, task, register, function, operand);
+    reply(registers, card, task, register, Body::UpdateReply);
+    0
+}
+
+// A reply: the task is done.
+fn deliver_reply(registers: &mut [u32; 1544], task: Task, doing: Doing) -> u8
+    ensures registers { λ _. ⌜ now (registers .exit) ≡ doingStored (now (registers .entry)) (task .0) doing ⌝ }
+    ensures number { λ r. ⌜ r ≡ 0 ⌝ }
+{
+    store(registers, task, doing);
+    0
+}
+
+// A message's body takes effect on a card.
+fn deliver_body(
+    registers: &mut [u32; 1544],
+    card: Card,
+    task: Task,
+    register: Register,
+    body: Body,
+) -> u8
+    ensures registers { λ _. ⌜ now (registers .exit) ≡ bodyWords (now (registers .entry)) (card .0) (task .0) (register .0) body ⌝ }
+    ensures number { λ r. ⌜ r ≡ bodyNumber (now (registers .entry)) (card .0) (task .0) (register .0) body ⌝ }
+{
+    match body {
+        Body::ReadDo => deliver_read(registers, card, task, register),
+        Body::UpdateDo(f, w) => deliver_update(registers, card, task, register, f, w),
+        Body::ReadReply(v) => deliver_reply(registers, task, Doing::DoneRead(v)),
+        Body::UpdateReply => deliver_reply(registers, task, Doing::DoneUpdate),
+    }
+}
+
+// A message takes effect on a card.
+fn deliver_message(registers: &mut [u32; 1544], card: Card, message: Message) -> u8
+    ensures registers { λ _. ⌜ now (registers .exit) ≡ foundWords (now (registers .entry)) (card .0) (Got message) ⌝ }
+    ensures number { λ r. ⌜ r ≡ foundNumber (now (registers .entry)) (card .0) (Got message) ⌝ }
+{
+    let body = message.body;
+    deliver_body(registers, card, message.task, message.register, body)
+}
+
+// What is found in the inbox takes effect on a card.
+fn deliver_found(registers: &mut [u32; 1544], card: Card, found: Received) -> u8
+    ensures registers { λ _. ⌜ now (registers .exit) ≡ foundWords (now (registers .entry)) (card .0) found ⌝ }
+    ensures number { λ r. ⌜ r ≡ foundNumber (now (registers .entry)) (card .0) found ⌝ }
+{
+    match found {
+        Received::Got(m) => deliver_message(registers, card, m),
+        Received::NoSuchCard => 14,
+        Received::Empty => 33,
+    }
+}
+
+// Step 9: the channel's inbox is looked at first, and the head leaves it where the step is taken.
+pub(crate) fn deliver(registers: &mut [u32; 1544], channel: &mut [u32; 4808], card: Card) -> u8
+    ensures registers { λ _. ⌜ now (registers .exit) ≡ deliverRegisters (now (registers .entry)) (now (channel .entry)) card ⌝ }
+    ensures channel { λ _. ⌜ now (channel .exit) ≡ deliverChannel (now (registers .entry)) (now (channel .entry)) card ⌝ }
+    ensures number { λ r. ⌜ r ≡ deliverNumber (now (registers .entry)) (now (channel .entry)) card ⌝ }
+{
+    let found = channel::head(channel, card);
+    let number = deliver_found(registers, card, found);
+    if number == 0 {
+        channel::receive(channel, card);
+        return number;
+    }
+    number
+}
