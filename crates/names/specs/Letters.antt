@@ -1,10 +1,10 @@
 -- A letter, that is a message with its sender and its destinations, in a block of eight words: kind, task, register, function, value,
 -- sender, destinations, tag. Block b starts at word b * 8 of the memory it lies in.
-use Prim.Native.Nat.{ℕ, zero, suc, _+_, _*_}
+use Prim.Native.Nat.{ℕ, zero, suc, _+_, _*_, _/_}
 use mathlib.Core.Bool.{Bool, true, false, cond, _&&_}
 use mathlib.Core.List.{List}
-use lib.Dec.{eqb, leb}
-use lib.ListN.{getD, set}
+use lib.Dec.{eqb, leb, ltb}
+use lib.ListN.{getD, set, length}
 use Rattle.names.specs.declared.Body.{Body}
 use Rattle.names.specs.declared.Body.the-variants.{ReadDo, UpdateDo, ReadReply, UpdateReply}
 use Rattle.names.specs.declared.Letter.{Letter}
@@ -38,17 +38,19 @@ kindAt ws b = getD ws (b * 8) 0
 abbrev pub tagAt : List ℕ → ℕ → ℕ
 tagAt ws b = getD ws (b * 8 + 7) 0
 
+-- the letter of seven words
+abbrev pub letterOf : ℕ → ℕ → ℕ → ℕ → ℕ → ℕ → ℕ → Letter
+letterOf kind task register f v from to = record {
+  message = record { task = record { 0 = task }; register = record { 0 = register }; body = bodyOf kind f v };
+  from = record { 0 = from };
+  to = to;
+}
+
 -- the letter in block b
 unfoldable pub letterAt : List ℕ → ℕ → Letter
-letterAt ws b = record {
-  message = record {
-    task = record { 0 = getD ws (b * 8 + 1) 0 };
-    register = record { 0 = getD ws (b * 8 + 2) 0 };
-    body = bodyOf (kindAt ws b) (getD ws (b * 8 + 3) 0) (getD ws (b * 8 + 4) 0);
-  };
-  from = record { 0 = getD ws (b * 8 + 5) 0 };
-  to = getD ws (b * 8 + 6) 0;
-}
+letterAt ws b =
+    letterOf (kindAt ws b) (getD ws (b * 8 + 1) 0) (getD ws (b * 8 + 2) 0) (getD ws (b * 8 + 3) 0) (getD ws (b * 8 + 4) 0)
+    (getD ws (b * 8 + 5) 0) (getD ws (b * 8 + 6) 0)
 
 -- block b with a letter and a tag
 unfoldable pub stored : List ℕ → ℕ → Letter → ℕ → List ℕ
@@ -62,6 +64,16 @@ stored ws b l t =
     (b * 8 + 5) (l .from .0))
     (b * 8 + 6) (l .to))
     (b * 8 + 7) t
+
+-- the memory reaches to the end of block b
+unfoldable pub reaches : List ℕ → ℕ → Bool
+reaches ws b = ltb b (length ws / 8)
+
+unfoldable pub letterIn : List ℕ → ℕ → Letter
+letterIn ws b = cond (reaches ws b) (letterAt ws b) (letterOf 0 0 0 0 0 0 0)
+
+unfoldable pub storedIn : List ℕ → ℕ → Letter → ℕ → List ℕ
+storedIn ws b l t = cond (reaches ws b) (stored ws b l t) ws
 
 -- "an unknown function": functions are 1 to 4
 unfoldable pub known : Body → Bool

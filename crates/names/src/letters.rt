@@ -1,7 +1,13 @@
-// A message's body in words, as a block of memory has it: kind, function, value.
+// Letters in blocks of eight words: kind, task, register, function, value, sender, destinations, tag.
 ghost use mathlib.Core.Path.{_≡_};
-ghost use Rattle.names.specs.Letters.{bodyOf, kindOf, functionOf, valueOf, known};
+ghost use Rattle.names.specs.Letters.{bodyOf, kindOf, functionOf, valueOf, known, letterOf, letterIn, storedIn};
 use crate::Body;
+use crate::BroadcastNumber;
+use crate::Card;
+use crate::Letter;
+use crate::Message;
+use crate::Register;
+use crate::Task;
 
 // The body that a block's kind, function and value give.
 pub fn body_of(kind: u32, function: u32, value: u32) -> Body
@@ -70,4 +76,68 @@ pub fn known(body: Body) -> bool
         Body::ReadReply(_) => true,
         Body::UpdateReply => true,
     }
+}
+
+// The letter of seven words.
+fn letter_of(
+    kind: u32,
+    task: u32,
+    register: u32,
+    function: u32,
+    value: u32,
+    from: u32,
+    to: u32,
+) -> Letter
+    ensures { λ r. ⌜ r ≡ letterOf kind task register function value «from» to ⌝ }
+{
+    let body = body_of(kind, function, value);
+    let message = Message {
+        task: Task(task),
+        register: Register(register),
+        body: body,
+    };
+    Letter {
+        message: message,
+        from: Card(from),
+        to: to,
+    }
+}
+
+// The letter in a block; the letter of zeros where the memory does not reach.
+pub fn load(memory: &[u32], block: usize) -> Letter
+    ensures { λ r. ⌜ r ≡ letterIn (now (memory .entry)) block ⌝ }
+{
+    if memory.len() / 8 <= block {
+        return letter_of(0, 0, 0, 0, 0, 0, 0);
+    }
+    let at = block * 8;
+    letter_of(
+        memory[at],
+        memory[at + 1],
+        memory[at + 2],
+        memory[at + 3],
+        memory[at + 4],
+        memory[at + 5],
+        memory[at + 6],
+    )
+}
+
+// A letter and a tag into a block; nothing where the memory does not reach.
+pub fn store(memory: &mut [u32], block: usize, letter: Letter, tag: BroadcastNumber)
+    ensures { λ _. ⌜ now (memory .exit) ≡ storedIn (now (memory .entry)) block letter (tag .0) ⌝ }
+{
+    if memory.len() / 8 <= block {
+        return;
+    }
+    let at = block * 8;
+    let message = letter.message;
+    let body = message.body;
+    memory[at] = kind_of(body);
+    memory[at + 1] = message.task.0;
+    memory[at + 2] = message.register.0;
+    memory[at + 3] = function_of(body);
+    memory[at + 4] = value_of(body);
+    memory[at + 5] = letter.from.0;
+    memory[at + 6] = letter.to;
+    memory[at + 7] = tag.0;
 }
