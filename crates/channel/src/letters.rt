@@ -1,4 +1,4 @@
-// Letters in blocks of eight words: kind, task, register, function, value, sender, destinations, tag.
+// Letters in the blocks of the memory, and what of a letter is past its limit.
 ghost use mathlib.Core.Path.{_≡_};
 ghost use Prim.Native.Nat.{_<_, _≤_};
 ghost use Rattle.names.specs.Letters.{letterAt, stored};
@@ -7,36 +7,14 @@ use super::layout::cards;
 use super::layout::registers;
 use super::layout::tasks;
 use names::BroadcastNumber;
-use names::Card;
 use names::Letter;
-use names::Message;
-use names::Register;
-use names::Task;
 
 // The letter in a block.
 pub(crate) fn load(memory: &[u32; 4808], block: usize) -> Letter
     requires { ⌜ block < 601 ⌝ }
     ensures { λ r. ⌜ r ≡ letterAt (now (memory .entry)) block ⌝ }
 {
-    let at = block * 8;
-    let kind = memory[at];
-    let task = Task(memory[at + 1]);
-    let register = Register(memory[at + 2]);
-    let function = memory[at + 3];
-    let value = memory[at + 4];
-    let from = Card(memory[at + 5]);
-    let to = memory[at + 6];
-    let body = names::letters::body_of(kind, function, value);
-    let message = Message {
-        task: task,
-        register: register,
-        body: body,
-    };
-    Letter {
-        message: message,
-        from: from,
-        to: to,
-    }
+    names::letters::load(memory, block)
 }
 
 // A letter and a tag into a block.
@@ -44,17 +22,7 @@ pub(crate) fn store(memory: &mut [u32; 4808], block: usize, letter: Letter, tag:
     requires { ⌜ block < 601 ⌝ }
     ensures { λ _. ⌜ now (memory .exit) ≡ stored (now (memory .entry)) block letter (tag .0) ⌝ }
 {
-    let at = block * 8;
-    let message = letter.message;
-    let body = message.body;
-    memory[at] = names::letters::kind_of(body);
-    memory[at + 1] = message.task.0;
-    memory[at + 2] = message.register.0;
-    memory[at + 3] = names::letters::function_of(body);
-    memory[at + 4] = names::letters::value_of(body);
-    memory[at + 5] = letter.from.0;
-    memory[at + 6] = letter.to;
-    memory[at + 7] = tag.0;
+    names::letters::store(memory, block, letter, tag);
 }
 
 // Whether there is a destination and each is a present card.

@@ -1,5 +1,5 @@
 -- A block written is the block read, and no other word changes.
-use Prim.Native.Nat.{ℕ, zero, suc, _+_, _*_, _<_, _≤_}
+use Prim.Native.Nat.{ℕ, zero, suc, _+_, _*_, _/_, _<_, _≤_}
 use mathlib.Core.Path.{_≡_, refl, _∙_}
 use mathlib.Core.Logic.{_≢_}
 use mathlib.Core.List.{List, [], _∷_}
@@ -10,7 +10,8 @@ use lib.Seq.{getD-set-same, getD-set-other, sets}
 use Rattle.names.specs.declared.Letter.{Letter}
 use Rattle.names.specs.declared.Body.{Body}
 use Rattle.names.specs.declared.Body.the-variants.{ReadDo, UpdateDo, ReadReply, UpdateReply}
-use Rattle.names.specs.Letters.{letterAt, stored, bodyOf, kindOf, functionOf, valueOf}
+use borrow.Author.Tests.{lt-ltb}
+use Rattle.names.specs.Letters.{letterAt, stored, reaches, letterIn, storedIn, bodyOf, kindOf, functionOf, valueOf}
 
 pub body-back : (y : Body) → bodyOf (kindOf y) (functionOf y) (valueOf y) ≡ y
 unfolding bodyOf kindOf functionOf valueOf
@@ -22,6 +23,15 @@ body-back UpdateReply = refl
 pub length-stored : (ws : List ℕ) (b : ℕ) (l : Letter) (t : ℕ) → length (stored ws b l t) ≡ length ws
 unfolding stored
 length-stored ws b l t = simp length-set
+
+-- where the memory reaches
+pub letter-reached : (ws : List ℕ) (n b : ℕ) → length ws ≡ n * 8 → b < n → letterIn ws b ≡ letterAt ws b
+unfolding letterIn reaches
+letter-reached ws n b e h = simp (lt-ltb b (length ws / 8) (omega arith))
+
+pub stored-reached : (ws : List ℕ) (n b : ℕ) (l : Letter) (t : ℕ) → length ws ≡ n * 8 → b < n → storedIn ws b l t ≡ stored ws b l t
+unfolding storedIn reaches
+stored-reached ws n b l t e h = simp (lt-ltb b (length ws / 8) (omega arith))
 
 -- a word outside the block
 pub word-other : (ws : List ℕ) (b : ℕ) (l : Letter) (t a : ℕ) → ((k : ℕ) → k < 8 → a ≢ b * 8 + k) → getD (stored ws b l t) a 0 ≡ getD ws a 0

@@ -9,34 +9,13 @@ use super::layout::card_place;
 use names::BroadcastNumber;
 use names::Card;
 use names::Letter;
-use names::Message;
-use names::Register;
-use names::Task;
 
 // The letter in a block.
 pub(crate) fn load_letter(registers: &[u32; 1544], block: usize) -> Letter
     requires { ⌜ block < 193 ⌝ }
     ensures { λ r. ⌜ r ≡ letterAt (now (registers .entry)) block ⌝ }
 {
-    let at = block * 8;
-    let kind = registers[at];
-    let task = Task(registers[at + 1]);
-    let register = Register(registers[at + 2]);
-    let function = registers[at + 3];
-    let value = registers[at + 4];
-    let from = Card(registers[at + 5]);
-    let to = registers[at + 6];
-    let body = names::letters::body_of(kind, function, value);
-    let message = Message {
-        task: task,
-        register: register,
-        body: body,
-    };
-    Letter {
-        message: message,
-        from: from,
-        to: to,
-    }
+    names::letters::load(registers, block)
 }
 
 // A letter and a tag into a block.
@@ -44,17 +23,7 @@ fn store_letter(registers: &mut [u32; 1544], block: usize, letter: Letter, tag: 
     requires { ⌜ block < 193 ⌝ }
     ensures { λ _. ⌜ now (registers .exit) ≡ stored (now (registers .entry)) block letter (tag .0) ⌝ }
 {
-    let at = block * 8;
-    let message = letter.message;
-    let body = message.body;
-    registers[at] = names::letters::kind_of(body);
-    registers[at + 1] = message.task.0;
-    registers[at + 2] = message.register.0;
-    registers[at + 3] = names::letters::function_of(body);
-    registers[at + 4] = names::letters::value_of(body);
-    registers[at + 5] = letter.from.0;
-    registers[at + 6] = letter.to;
-    registers[at + 7] = tag.0;
+    names::letters::store(registers, block, letter, tag);
 }
 
 // The number of messages in a card's outbox.
