@@ -28,7 +28,7 @@ use super::letters::load;
 use super::single::no_flight;
 use names::Card;
 
-// Whether a block has a message with no field past its limit.
+// Whether a block has a message with no field past its limit, its tag among them.
 fn block_fits(memory: &[u32; 4808], block: usize) -> bool
     requires { ⌜ block < 601 ⌝ }
     ensures { λ r. ⌜ r ≡ blockFits (now (memory .entry)) block ⌝ }
@@ -38,6 +38,9 @@ fn block_fits(memory: &[u32; 4808], block: usize) -> bool
         return false;
     }
     if 4 < kind {
+        return false;
+    }
+    if 65535 < memory[block * 8 + 7] {
         return false;
     }
     let letter = load(memory, block);
