@@ -76,4 +76,5 @@ pub mod FitKept
 -- Any list of calls on a memory
 pub mod ChannelLaw
 pub mod Offered
+pub mod OfferedCalls
 pub mod MemoryExamples

@@ -1,4 +1,5 @@
--- What a layer above may rely on, in the words of the definitions that the functions' contracts cite.
+-- What a layer above may rely on, in the words of the definitions that the functions' contracts cite. With OfferedCalls, the only laws of
+-- this crate that it may cite; so laws from inside are offered here by name.
 use Prim.Native.Nat.{ℕ, zero, suc, _+_, _<_, _≤_, _^_}
 use mathlib.Core.Path.{_≡_, refl, _∙_}
 use mathlib.Core.Bool.{true}
@@ -24,11 +25,15 @@ use Rattle.channel.specs.Sized.{inboxFits, blockFits, wellSized}
 use Rattle.channel.specs.Shows.{inboxOf, heldOf, flightOf, Shows}
 use Rattle.channel.specs.MemoryCalls.{SameSizes, memoryAfter, handedUp}
 use Rattle.channel.proofs.SizedFacts.{registers-words}
+pub use Rattle.channel.proofs.SizedFacts.{cards-most, tasks-most}
 use Rattle.channel.proofs.WellSizedParts.{Fit, fit-of}
+pub use Rattle.channel.proofs.WellSizedParts.{same-cards, same-tasks, fits-same}
+pub use Rattle.channel.proofs.Destinations.{member-present}
 use Rattle.channel.proofs.FitKept.{sized-of}
 use Rattle.channel.proofs.FitQueues.{block-letter}
 use Rattle.channel.proofs.Receiving.{receive-answer}
 use Rattle.channel.proofs.ChannelLaw.{channel-follows}
+pub use Rattle.channel.proofs.ChannelLaw.{begin-follows}
 
 pub registers-most : (ws : List ℕ) → registersOf ws ≤ 32
 unfolding registersOf
@@ -36,6 +41,12 @@ registers-most ws = omega arith
 
 pub same-registers : (us ws : List ℕ) → SameSizes us ws → registersOf us ≡ registersOf ws
 same-registers us ws s = registers-words us ws (s .registers)
+
+-- "Cards 1 to 8, registers 1 to 32, tasks 1 to 16"
+pub sizes-fit : (cards tasks registers : ℕ) → leb 1 cards ≡ true → leb cards 8 ≡ true → leb 1 tasks ≡ true → leb tasks 16 ≡ true → leb 1 registers ≡ true
+    → leb registers 32 ≡ true → sizesFit cards tasks registers ≡ true
+unfolding sizesFit
+sizes-fit cards tasks registers a b c d e f = and-intro (and-intro (and-intro (and-intro (and-intro a b) c) d) e) f
 
 -- ---- letters that fit
 

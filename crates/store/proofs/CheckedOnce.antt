@@ -1,12 +1,12 @@
 -- A run from a start need not check the state at each step.
 use mathlib.Core.Path.{_≡_, refl, sym, ap, ap₂, _∙_}
 use mathlib.Core.List.{List, [], _∷_}
+use Rattle.names.specs.declared.Answer.{Answer}
 use Rattle.names.specs.Placement.{Placement}
 use Rattle.claims.specs.Steps.{RawStep, decode}
 use Rattle.claims.specs.Published.{Published}
-use Rattle.claims.specs.PublishedRun.{Answer, afterDecoded}
+use Rattle.claims.specs.PublishedRun.{afterDecoded}
 use Rattle.store.specs.Step.{Outcome, advanced, stepped}
-use Rattle.store.specs.Demand2.{said}
 use Rattle.store.specs.Run.{Store, started, next, storeAfter, answersOf, advance, advanceAll, answersAdvancing}
 use Rattle.store.specs.Starts.{CheckedOnce}
 use Rattle.store.proofs.StepLaw.{step-follows, advance-is}
@@ -30,7 +30,7 @@ module _ (P : Placement) where
   same-answers : (m : Store) (s : Published) (l : List RawStep) → At P m s → answersAdvancing m l ≡ answersOf m l
   same-answers m s [] z = refl
   same-answers m s (a ∷ l) z =
-      ap₂ (λ (x : Answer) (y : List Answer). x ∷ y) (ap (λ (o : Outcome). said (o .answer)) (same-outcome m s z a))
+      ap₂ (λ (x : Answer) (y : List Answer). x ∷ y) (ap (λ (o : Outcome). o .answer) (same-outcome m s z a))
       (ap (λ n. answersAdvancing n l) (same-next m s z a)
       ∙ same-answers (next m a) (afterDecoded P s (decode P a)) l (step-follows (m .registers) (m .channel) P s z a .stands))
 

@@ -16,16 +16,15 @@ use Rattle.names.specs.CardSet.{justOf}
 use Rattle.names.specs.Letters.{known}
 use Rattle.names.specs.Update.{updated}
 use Rattle.names.specs.Placement.{Placement, home, primary, copy}
-use Rattle.channel.specs.State.{ChannelState, channelStep}
-use Rattle.channel.specs.State as C
+use Rattle.channel.specs.State.{ChannelState, deliver, channelStep}
 use Rattle.channel.specs.Layout.{cardsOf, tasksOf, registersOf}
 use Rattle.channel.specs.declared.Received.the-variants.{Got, Empty}
 use Rattle.channel.specs.Inbox.{receiveAnswer, receiveMemory}
 use Rattle.channel.specs.Answers.{receivedNumber}
-use Rattle.channel.specs.MemoryCalls.{receiveCall, callNumber, callMemory, handedUp}
-use Rattle.channel.proofs.SizedFacts.{cards-most}
-use Rattle.channel.proofs.Offered.{Fits, fits-is, hands, head-fits}
-use Rattle.claims.specs.Command.{deliver}
+use Rattle.channel.specs.MemoryCalls.{handedUp}
+use Rattle.channel.proofs.Offered.{cards-most, Fits, fits-is, hands, head-fits}
+use Rattle.channel.proofs.OfferedCalls.{receive-passes, got-number}
+use Rattle.claims.specs.Command as Step
 use Rattle.claims.specs.Steps.{good}
 use Rattle.claims.specs.Refusals.{outboxRoom}
 use Rattle.claims.specs.Published.{Published, mail, setStatus, setCopy, post, withChannel, replies, replyTo, receiving, doneUpdate}
@@ -40,7 +39,7 @@ use Rattle.store.specs.Sized.{doingFits}
 use Rattle.store.specs.Step.{outcome}
 use Rattle.store.specs.Shows.{statusOf, plain, ChannelShows}
 use Rattle.store.specs.Demand2.{StepFollows}
-use Rattle.store.proofs.OverChannel.{Passes, passes}
+use Rattle.store.proofs.OverChannel.{Goes, goes}
 use Rattle.store.proofs.Standing.{Ready, home-there, holds-is, count-is, follows}
 use Rattle.store.proofs.RequestLaw.{doing-ready}
 use Rattle.store.proofs.PerformLaw.{updated-ready}
@@ -159,8 +158,10 @@ module _ (rs cs : List ℕ) (P : Placement) (s : Published) (z : Ready rs cs P s
   inbox-is : s .channel .inbox (i .0) ≡ map plain (w .inbox (i .0))
   inbox-is = ap (λ c. c .inbox (i .0)) (z .channel-shows .plain=)
 
-  received : Passes cs (s .channel) (receiveCall i)
-  received = passes cs (s .channel) (z .channel-long) (z .channel-fit) (z .channel-shows) (receiveCall i) (rw (lt-ltb (i .0) (cardsOf cs) card)) refl
+  received : Goes cs (s .channel) (deliver (i .0)) (receivedNumber (receiveAnswer cs i)) (receiveMemory cs i)
+  received =
+      goes cs (s .channel) (z .channel-shows) (deliver (i .0)) (receivedNumber (receiveAnswer cs i)) (receiveMemory cs i)
+      (receive-passes cs w (z .channel-long) (z .channel-fit) (z .channel-shows .shows) i card)
 
   module _ (l : Letter) (r : List Letter) (e : w .inbox (i .0) ≡ l ∷ r) where
     fit : Fits cs l
@@ -175,11 +176,10 @@ module _ (rs cs : List ℕ) (P : Placement) (s : Published) (z : Ready rs cs P s
 
     delivered : bodyNumber rs (i .0) (l .message .task .0) (l .message .register .0) (l .message .body) ≡ 0
         → Ready (bodyWords rs (i .0) (l .message .task .0) (l .message .register .0) (l .message .body)) (receiveMemory cs i) P (receiving P s (i .0) (plain l) (l .message .body))
-    unfolding callNumber callMemory receivedNumber
     delivered n =
         let y = body-ready rs cs P s z (i .0) card (plain l) (fit .task) (fit .register) (l .message .body) n in
         let k = received in
-        let q : receivedNumber (receiveAnswer cs i) ≡ 0 = rw got-it in
+        let q : receivedNumber (receiveAnswer cs i) ≡ 0 = rw got-it (got-number (l .message)) in
         channel-ready rs (bodyWords rs (i .0) (l .message .task .0) (l .message .register .0) (l .message .body)) cs (receiveMemory cs i) P s
         (receiving P s (i .0) (plain l) (l .message .body)) z (y .long) (y .fit)
         (record {
@@ -193,20 +193,20 @@ module _ (rs cs : List ℕ) (P : Placement) (s : Published) (z : Ready rs cs P s
         })
         (k .sized) (k .long) (k .sizes) (shown (l .message .body) (k .shows q))
       where
-        shown : (b : Body) → ChannelShows (receiveMemory cs i) (channelStep mail (s .channel) (C.deliver (i .0))) → ChannelShows (receiveMemory cs i) (receiving P s (i .0) (plain l) b .channel)
+        shown : (b : Body) → ChannelShows (receiveMemory cs i) (channelStep mail (s .channel) (deliver (i .0))) → ChannelShows (receiveMemory cs i) (receiving P s (i .0) (plain l) b .channel)
         shown ReadDo v = v
         shown (UpdateDo f x) v = v
         shown (ReadReply x) v = v
         shown UpdateReply v = v
 
-  pub deliver-follows : StepFollows rs cs P s (outcome (deliverNumber rs cs i) (deliverRegisters rs cs i) (deliverChannel rs cs i)) (good (deliver (i .0)))
+  pub deliver-follows : StepFollows rs cs P s (outcome (deliverNumber rs cs i) (deliverRegisters rs cs i) (deliverChannel rs cs i)) (good (Step.deliver (i .0)))
   unfolding deliverNumber deliverRegisters deliverChannel foundNumber foundWords
   deliver-follows = go (w .inbox (i .0)) refl
     where
-      go : (a : List Letter) → w .inbox (i .0) ≡ a → StepFollows rs cs P s (outcome (deliverNumber rs cs i) (deliverRegisters rs cs i) (deliverChannel rs cs i)) (good (deliver (i .0)))
+      go : (a : List Letter) → w .inbox (i .0) ≡ a → StepFollows rs cs P s (outcome (deliverNumber rs cs i) (deliverRegisters rs cs i) (deliverChannel rs cs i)) (good (Step.deliver (i .0)))
       go [] e =
           let g : receiveAnswer cs i ≡ Empty = got ∙ ap handedUp e in
-          follows rs cs P s z (deliverNumber rs cs i) (deliverRegisters rs cs i) (deliverChannel rs cs i) (deliver (i .0)) refl
+          follows rs cs P s z (deliverNumber rs cs i) (deliverRegisters rs cs i) (deliverChannel rs cs i) (Step.deliver (i .0)) refl
           (rw (g, inbox-is, e)) (λ q. absurd (none g q)) (λ q. rw g (refl, refl))
         where
           none : receiveAnswer cs i ≡ Empty → deliverNumber rs cs i ≡ 0 → ⊥
@@ -214,7 +214,7 @@ module _ (rs cs : List ℕ) (P : Placement) (s : Published) (z : Ready rs cs P s
       go (l ∷ r) e =
           let f = fit l r e in
           let g = got-it l r e in
-          follows rs cs P s z (deliverNumber rs cs i) (deliverRegisters rs cs i) (deliverChannel rs cs i) (deliver (i .0)) refl
+          follows rs cs P s z (deliverNumber rs cs i) (deliverRegisters rs cs i) (deliverChannel rs cs i) (Step.deliver (i .0)) refl
           (rw (g, inbox-is, e) (body-number rs cs P s z (i .0) card (plain l) (f .task) (f .register) (l .message .body)))
           (λ q. rw (q, g, inbox-is, e) (delivered l r e (sym (number-is l r e) ∙ q)))
           (λ q. (rw g (body-refused rs cs P s z (i .0) card (plain l) (f .task) (f .register) (l .message .body) (λ h. q (number-is l r e ∙ h))), rw (ne-eqb (deliverNumber rs cs i) 0 q)))

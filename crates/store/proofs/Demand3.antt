@@ -11,7 +11,7 @@ use lib.ListN.{List·getD-eq-default}
 use Rattle.lists.specs.Tests.{and-fst, and-snd}
 use Rattle.names.specs.CardSet.{memberOf}
 use Rattle.names.specs.Placement.{Placement, registers, holders, copy}
-use Rattle.channel.proofs.Destinations.{member-present}
+use Rattle.channel.proofs.Offered.{member-present}
 use Rattle.claims.specs.Steps.{RawStep, decode}
 use Rattle.claims.specs.Published.{Published, begin}
 use Rattle.claims.specs.PublishedRun.{Answer, afterDecoded, answersFrom, finalFrom}

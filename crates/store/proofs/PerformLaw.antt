@@ -14,8 +14,7 @@ use Rattle.names.specs.Update.{updated}
 use Rattle.names.specs.Placement.{Placement, home}
 use Rattle.channel.specs.Refusals.{otherwise}
 use Rattle.channel.specs.Layout.{cardsOf, tasksOf, registersOf}
-use Rattle.channel.proofs.SizedFacts.{cards-most, tasks-most}
-use Rattle.channel.proofs.Offered.{registers-most}
+use Rattle.channel.proofs.Offered.{cards-most, tasks-most, registers-most}
 use Rattle.claims.specs.Command.{perform}
 use Rattle.claims.specs.Steps.{good}
 use Rattle.claims.specs.Refusals.{performRefusal}

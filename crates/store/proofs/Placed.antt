@@ -6,13 +6,13 @@ use native.Mathlib.Omega.{arith}
 use borrow.Author.Tests.{ltb-true, leb-true}
 use lib.Dec.{eqb, ltb, leb}
 use lib.ListN.{length}
-use Rattle.lists.specs.Tests.{and-fst, and-snd, and-intro}
+use Rattle.lists.specs.Tests.{and-fst, and-snd}
 use Rattle.lists.specs.Conjunctions.{and-three, and-five}
 use Rattle.lists.specs.Every.{each-at}
 use Rattle.names.specs.CardSet.{memberOf}
 use Rattle.names.specs.Placement.{Placement, tasks, registers, home, holders, primary, sizesInRange, homePlaced, homesPlaced, registerPlaced, registersPlaced, sized, placed, placementRefusal}
 use Rattle.channel.specs.Begin.{sizesFit}
-use Rattle.channel.proofs.Destinations.{member-present}
+use Rattle.channel.proofs.Offered.{sizes-fit, member-present}
 
 module _ (P : Placement) (ok : placementRefusal P ≡ 0) where
   passed : (sized P ≡ true) × (placed P ≡ true)
@@ -29,13 +29,12 @@ module _ (P : Placement) (ok : placementRefusal P ≡ 0) where
   sizes = and-fst (sizesInRange (P .cards) (registers P) (tasks P)) (eqb (length (P .primaries)) (registers P)) (passed .0)
 
   -- "Cards 1 to 8, registers 1 to 32, tasks 1 to 16", as the channel has them
-  pub sizes-fit : sizesFit (P .cards) (tasks P) (registers P) ≡ true
-  unfolding sizesFit
-  sizes-fit =
+  pub channel-sizes : sizesFit (P .cards) (tasks P) (registers P) ≡ true
+  channel-sizes =
       let u = and-five (leb 1 (P .cards)) (leb (P .cards) 8) (leb 1 (registers P)) (leb (registers P) 32) (leb 1 (tasks P))
       (and-fst (leb 1 (P .cards) && leb (P .cards) 8 && leb 1 (registers P) && leb (registers P) 32 && leb 1 (tasks P)) (leb (tasks P) 16) sizes) in
       let t = and-snd (leb 1 (P .cards) && leb (P .cards) 8 && leb 1 (registers P) && leb (registers P) 32 && leb 1 (tasks P)) (leb (tasks P) 16) sizes in
-      and-intro (and-intro (and-intro (and-intro (and-intro (u .0) (u .1)) (u .4)) t) (u .2)) (u .3)
+      sizes-fit (P .cards) (tasks P) (registers P) (u .0) (u .1) (u .4) t (u .2) (u .3)
 
   pub tasks-low : tasks P ≤ 16
   tasks-low = leb-true _ _ (and-snd (leb 1 (P .cards) && leb (P .cards) 8 && leb 1 (registers P) && leb (registers P) 32 && leb 1 (tasks P)) (leb (tasks P) 16) sizes)

@@ -12,8 +12,7 @@ use Rattle.names.specs.Letters.{known}
 use Rattle.names.specs.Placement.{Placement}
 use Rattle.channel.specs.Refusals.{otherwise}
 use Rattle.channel.specs.Layout.{cardsOf, tasksOf, registersOf}
-use Rattle.channel.proofs.SizedFacts.{cards-most, tasks-most}
-use Rattle.channel.proofs.Offered.{registers-most, fits-of}
+use Rattle.channel.proofs.Offered.{cards-most, tasks-most, registers-most, fits-of}
 use Rattle.claims.specs.Refusals.{outboxRoom}
 use Rattle.claims.specs.Published.{Published, post}
 use Rattle.store.specs.Layout.{onlyCard}

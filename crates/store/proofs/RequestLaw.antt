@@ -13,8 +13,7 @@ use Rattle.names.specs.declared.Register.{Register}
 use Rattle.names.specs.Placement.{Placement}
 use Rattle.channel.specs.Refusals.{otherwise}
 use Rattle.channel.specs.Layout.{cardsOf, tasksOf, registersOf}
-use Rattle.channel.proofs.SizedFacts.{cards-most, tasks-most}
-use Rattle.channel.proofs.Offered.{registers-most}
+use Rattle.channel.proofs.Offered.{cards-most, tasks-most, registers-most}
 use Rattle.claims.specs.Command.{request-read, request-update, report}
 use Rattle.claims.specs.Steps.{good}
 use Rattle.claims.specs.Refusals.{requestRefusal, reportRefusal}
@@ -28,7 +27,7 @@ use Rattle.store.specs.Requests.{isQuiet, requestNumber, requestWords, r
 use Rattle.store.specs.Sized.{doingFits}
 use Rattle.store.specs.Step.{outcome}
 use Rattle.store.specs.Shows.{statusOf, RegistersShow}
-use Rattle.store.specs.Demand2.{said, StepFollows}
+use Rattle.store.specs.Demand2.{StepFollows}
 use Rattle.store.proofs.Words.{doing-long}
 use Rattle.store.proofs.Showing.{requests-show, doing-show}
 use Rattle.store.proofs.Sizing.{requests-fit, doing-fit}
@@ -117,12 +116,12 @@ module _ (rs cs : List ℕ) (P : Placement) (s : Published) (z : Ready rs cs P s
       go (DoneRead v) = refl
       go DoneUpdate = refl
 
-  report-answer : said (reportAnswer rs t)
+  report-answer : reportAnswer rs t
       ≡ record { result = reportRefusal (stage P (s .status t)); value = cond (eqb (reportRefusal (stage P (s .status t))) 0) (valueOf (s .status t)) 0 }
   unfolding reportAnswer reportOf statusOf
   report-answer = rw (z .show .status= t there) (go (doingAt rs t))
     where
-      go : (d : Doing) → said (reportOf d) ≡ record { result = reportRefusal (stage P (statusOf d)); value = cond (eqb (reportRefusal (stage P (statusOf d))) 0) (valueOf (statusOf d)) 0 }
+      go : (d : Doing) → reportOf d ≡ record { result = reportRefusal (stage P (statusOf d)); value = cond (eqb (reportRefusal (stage P (statusOf d))) 0) (valueOf (statusOf d)) 0 }
       go Quiet = refl
       go (AskingRead x) = refl
       go (AskingUpdate x f w) = refl

@@ -15,7 +15,7 @@ use Rattle.names.specs.CardSet.{justOf}
 use Rattle.names.specs.Letters.{known}
 use Rattle.names.specs.Placement.{Placement, home, holders, copy}
 use Rattle.channel.specs.Layout.{cardsOf, tasksOf, registersOf}
-use Rattle.channel.proofs.SizedFacts.{cards-most}
+use Rattle.channel.proofs.Offered.{cards-most}
 use Rattle.claims.specs.Command.{send-read, send-update}
 use Rattle.claims.specs.Steps.{good}
 use Rattle.claims.specs.Refusals.{outboxRoom, updateRoom, sendReadRefusal, sendUpdateRefusal}

@@ -14,8 +14,7 @@ use Rattle.names.specs.Placement.{Placement, tasks, registers, home, holders, p
 use Rattle.channel.specs.State.{initialChannel}
 use Rattle.channel.specs.Layout.{cardsOf, tasksOf, registersOf}
 use Rattle.channel.specs.Begin.{beginMemory}
-use Rattle.channel.proofs.ChannelLaw.{begin-follows}
-use Rattle.channel.proofs.Offered.{begun-sized, begun-length}
+use Rattle.channel.proofs.Offered.{begin-follows, begun-sized, begun-length}
 use Rattle.claims.specs.Published.{begin}
 use Rattle.store.specs.Layout.{homeWord, kindWord, holdersWord, primaryWord, copyWord, outHeadWord, outCountWord}
 use Rattle.store.specs.Doings.{doingOf, doingAt}
@@ -29,7 +28,7 @@ use Rattle.store.specs.Run.{Store, started}
 use Rattle.store.specs.Starts.{Starts}
 use Rattle.store.proofs.Sizing.{RegistersFit}
 use Rattle.store.proofs.Standing.{Ready, stands}
-use Rattle.store.proofs.Placed.{sizes-fit, tasks-low, registers-low, home-placed, holders-placed, primary-placed}
+use Rattle.store.proofs.Placed.{channel-sizes, tasks-low, registers-low, home-placed, holders-placed, primary-placed}
 
 zeros : (n a : ℕ) → getD (replicate {A = ℕ} n 0) a 0 ≡ 0
 zeros zero a = refl
@@ -180,7 +179,7 @@ module _ (P : Placement) (ok : placementRefusal P ≡ 0) where
   start-ready : (cs : List ℕ) → Ready ws (beginMemory cs (P .cards) (tasks P) (registers P)) P begin
   start-ready cs =
       let b = begin-follows cs (P .cards) (tasks P) (registers P) in
-      let f = sizes-fit P ok in
+      let f = channel-sizes P ok in
       let e = b .sizes f in
       record {
         long = start-long;

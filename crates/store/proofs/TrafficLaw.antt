@@ -14,21 +14,18 @@ use Rattle.names.specs.declared.Task.{Task}
 use Rattle.names.specs.declared.Letter.{Letter}
 use Rattle.names.specs.Letters.{kindAt}
 use Rattle.names.specs.Placement.{Placement}
-use Rattle.channel.specs.State.{ChannelState, channelStep}
-use Rattle.channel.specs.State as C
-use Rattle.channel.specs.Refusals.{channelRefusal}
+use Rattle.channel.specs.State.{ChannelState, ChannelAction, dispatch, takeBroadcast, takeSingle, channelStep}
 use Rattle.channel.specs.Layout.{cardsOf, tasksOf, registersOf}
 use Rattle.channel.specs.Letters.{fits}
 use Rattle.channel.specs.Answers.{answerNumber}
-use Rattle.channel.specs.Dispatch.{letterOf}
+use Rattle.channel.specs.Dispatch.{letterOf, dispatchAnswer, dispatchMemory}
 use Rattle.channel.specs.TakeBroadcast.{takeAnswer, takeMemory}
 use Rattle.channel.specs.TakeSingle.{singleAnswer, singleMemory}
 use Rattle.channel.specs.Sized.{wellSized}
-use Rattle.channel.specs.MemoryCalls.{Call, dispatchCall, takeBroadcastCall, takeSingleCall, callNumber, callMemory, actionOf, absent, unfit, SameSizes}
-use Rattle.channel.proofs.SizedFacts.{cards-most, tasks-most}
-use Rattle.channel.proofs.WellSizedParts.{same-cards, same-tasks, fits-same}
-use Rattle.channel.proofs.Offered.{registers-most, same-registers}
-use Rattle.claims.specs.Command.{dispatch, takeBroadcast, takeSingle}
+use Rattle.channel.specs.MemoryCalls.{SameSizes}
+use Rattle.channel.proofs.Offered.{cards-most, tasks-most, registers-most, same-cards, same-tasks, same-registers, fits-same}
+use Rattle.channel.proofs.OfferedCalls.{dispatch-passes, take-broadcast-passes, take-single-passes, dispatch-refusal, take-broadcast-refusal, take-single-refusal}
+use Rattle.claims.specs.Command as Step
 use Rattle.claims.specs.Steps.{good}
 use Rattle.claims.specs.Published.{Published, mail, withChannel, dispatching}
 use Rattle.claims.specs.Published as Pub
@@ -44,7 +41,7 @@ use Rattle.store.specs.Demand2.{StepFollows}
 use Rattle.store.proofs.Words.{unposted-long, unpost-drops}
 use Rattle.store.proofs.Showing.{unpost-show}
 use Rattle.store.proofs.Sizing.{RegistersFit, unpost-fit}
-use Rattle.store.proofs.OverChannel.{Passes, passes}
+use Rattle.store.proofs.OverChannel.{Goes, goes}
 use Rattle.store.proofs.Standing.{Ready, follows}
 
 -- ---- another channel's memory of the same sizes
@@ -101,12 +98,10 @@ channel-ready rs us cs ds P s u z l f v ok dl e w =
 
 module _ (rs cs : List ℕ) (P : Placement) (s : Published) (z : Ready rs cs P s) where
   -- the registers as they were, and a channel's call taken
-  called : (c : Call) → absent cs (actionOf c) ≡ 0 → unfit cs (actionOf c) ≡ 0 → Passes cs (s .channel) c
-  called c a b = passes cs (s .channel) (z .channel-long) (z .channel-fit) (z .channel-shows) c a b
-
-  called-ready : (c : Call) (k : Passes cs (s .channel) c) (w : ChannelState Pub.Letter) → ChannelShows (callMemory cs c) w → Ready rs (callMemory cs c) P (withChannel s w)
-  called-ready c k w v =
-      channel-ready rs rs cs (callMemory cs c) P s (withChannel s w) z (z .long) (z .fit)
+  called-ready : (x : ChannelAction Pub.Letter) (n : ℕ) (ds : List ℕ) → Goes cs (s .channel) x n ds → (w : ChannelState Pub.Letter) → ChannelShows ds w
+      → Ready rs ds P (withChannel s w)
+  called-ready x n ds k w v =
+      channel-ready rs rs cs ds P s (withChannel s w) z (z .long) (z .fit)
       (record {
         home= = z .show .home=;
         holders= = z .show .holders=;
@@ -120,22 +115,22 @@ module _ (rs cs : List ℕ) (P : Placement) (s : Published) (z : Ready rs cs P s
 
   -- ---- steps 7 and 8
 
-  pub take-broadcast-follows : (i : Card) → i .0 < cardsOf cs → StepFollows rs cs P s (outcome (answerNumber (takeAnswer cs i)) rs (takeMemory cs i)) (good (takeBroadcast (i .0)))
-  unfolding callNumber callMemory channelRefusal
+  pub take-broadcast-follows : (i : Card) → i .0 < cardsOf cs → StepFollows rs cs P s (outcome (answerNumber (takeAnswer cs i)) rs (takeMemory cs i)) (good (Step.takeBroadcast (i .0)))
   take-broadcast-follows i h =
-      let k = called (takeBroadcastCall i) (rw (lt-ltb (i .0) (cardsOf cs) h)) refl in
-      follows rs cs P s z (answerNumber (takeAnswer cs i)) rs (takeMemory cs i) (takeBroadcast (i .0)) refl
-      (rw (z .cards=) (k .number))
-      (λ n. called-ready (takeBroadcastCall i) k _ (k .shows n))
+      let k = goes cs (s .channel) (z .channel-shows) (takeBroadcast (i .0)) (answerNumber (takeAnswer cs i)) (takeMemory cs i)
+      (take-broadcast-passes cs (z .channel-shows .letters) (z .channel-long) (z .channel-fit) (z .channel-shows .shows) i h) in
+      follows rs cs P s z (answerNumber (takeAnswer cs i)) rs (takeMemory cs i) (Step.takeBroadcast (i .0)) refl
+      (rw (z .cards=) (k .number ∙ take-broadcast-refusal mail (cardsOf cs) (s .channel) (i .0)))
+      (λ n. called-ready (takeBroadcast (i .0)) (answerNumber (takeAnswer cs i)) (takeMemory cs i) k _ (k .shows n))
       (λ n. (refl, k .untouched n))
 
-  pub take-single-follows : (t : Task) → t .0 < tasksOf cs → StepFollows rs cs P s (outcome (answerNumber (singleAnswer cs t)) rs (singleMemory cs t)) (good (takeSingle (t .0)))
-  unfolding callNumber callMemory channelRefusal
+  pub take-single-follows : (t : Task) → t .0 < tasksOf cs → StepFollows rs cs P s (outcome (answerNumber (singleAnswer cs t)) rs (singleMemory cs t)) (good (Step.takeSingle (t .0)))
   take-single-follows t h =
-      let k = called (takeSingleCall t) (rw (lt-ltb (t .0) (tasksOf cs) h)) refl in
-      follows rs cs P s z (answerNumber (singleAnswer cs t)) rs (singleMemory cs t) (takeSingle (t .0)) refl
-      (rw (z .cards=) (k .number))
-      (λ n. called-ready (takeSingleCall t) k _ (k .shows n))
+      let k = goes cs (s .channel) (z .channel-shows) (takeSingle (t .0)) (answerNumber (singleAnswer cs t)) (singleMemory cs t)
+      (take-single-passes cs (z .channel-shows .letters) (z .channel-long) (z .channel-fit) (z .channel-shows .shows) t h) in
+      follows rs cs P s z (answerNumber (singleAnswer cs t)) rs (singleMemory cs t) (Step.takeSingle (t .0)) refl
+      (rw (z .cards=) (k .number ∙ take-single-refusal mail (cardsOf cs) (s .channel) (t .0)))
+      (λ n. called-ready (takeSingle (t .0)) (answerNumber (singleAnswer cs t)) (singleMemory cs t) k _ (k .shows n))
       (λ n. (refl, k .untouched n))
 
   -- ---- step 6
@@ -160,30 +155,36 @@ module _ (rs cs : List ℕ) (P : Placement) (s : Published) (z : Ready rs cs P s
     abbrev first : Letter
     first = firstOut rs (i .0)
 
-    abbrev call : Call
-    call = dispatchCall i (first .message) (first .to)
+    -- what the channel answers of it, and leaves
+    abbrev number : ℕ
+    number = answerNumber (dispatchAnswer cs i (first .message) (first .to))
 
-    head-called : (n : ℕ) → outCountOf rs (i .0) ≡ suc n → Passes cs (s .channel) call
-    head-called n e = called call (rw (lt-ltb (i .0) (cardsOf cs) card)) (rw (head-goes n e))
+    abbrev left : List ℕ
+    left = dispatchMemory cs i (first .message) (first .to)
+
+    head-called : (n : ℕ) → outCountOf rs (i .0) ≡ suc n → Goes cs (s .channel) (dispatch (i .0) (plain first)) number left
+    head-called n e =
+        goes cs (s .channel) (z .channel-shows) (dispatch (i .0) (letterOf i (first .message) (first .to))) number left
+        (dispatch-passes cs (z .channel-shows .letters) (z .channel-long) (z .channel-fit) (z .channel-shows .shows) i (first .message) (first .to) card (head-goes n e))
 
     -- the head gone, and dispatched
-    dispatched : (n : ℕ) (e : outCountOf rs (i .0) ≡ suc n) → callNumber cs call ≡ 0
-        → Ready (unposted rs (i .0)) (callMemory cs call) P (dispatching P s (i .0) (plain first ∷ outboxOf (unposted rs (i .0)) (i .0)))
+    dispatched : (n : ℕ) (e : outCountOf rs (i .0) ≡ suc n) → number ≡ 0
+        → Ready (unposted rs (i .0)) left P (dispatching P s (i .0) (plain first ∷ outboxOf (unposted rs (i .0)) (i .0)))
     dispatched n e q =
         let k = head-called n e in
-        channel-ready rs (unposted rs (i .0)) cs (callMemory cs call) P s (dispatching P s (i .0) (plain first ∷ outboxOf (unposted rs (i .0)) (i .0))) z
+        channel-ready rs (unposted rs (i .0)) cs left P s (dispatching P s (i .0) (plain first ∷ outboxOf (unposted rs (i .0)) (i .0))) z
         (unposted-long rs (i .0) (z .long) n e)
         (unpost-fit rs cs (cards-most cs) (tasks-most cs) (registers-most cs) (z .long) (z .fit) (i .0) card n e)
-        (unpost-show rs (cardsOf cs) (tasksOf cs) (registersOf cs) (cards-most cs) (tasks-most cs) (registers-most cs) P s (z .long) (z .show) (channelStep mail (s .channel) (C.dispatch (i .0) (plain first))) (i .0) card n e)
+        (unpost-show rs (cardsOf cs) (tasksOf cs) (registersOf cs) (cards-most cs) (tasks-most cs) (registers-most cs) P s (z .long) (z .show) (channelStep mail (s .channel) (dispatch (i .0) (plain first))) (i .0) card n e)
         (k .sized) (k .long) (k .sizes) (k .shows q)
 
-    pub dispatch-follows : StepFollows rs cs P s (outcome (dispatchNumber rs cs i) (dispatchRegisters rs cs i) (dispatchChannel rs cs i)) (good (dispatch (i .0)))
-    unfolding dispatchNumber dispatchRegisters dispatchChannel callNumber callMemory channelRefusal
+    pub dispatch-follows : StepFollows rs cs P s (outcome (dispatchNumber rs cs i) (dispatchRegisters rs cs i) (dispatchChannel rs cs i)) (good (Step.dispatch (i .0)))
+    unfolding dispatchNumber dispatchRegisters dispatchChannel
     dispatch-follows = go (outCountOf rs (i .0)) refl
       where
-        go : (n : ℕ) → outCountOf rs (i .0) ≡ n → StepFollows rs cs P s (outcome (dispatchNumber rs cs i) (dispatchRegisters rs cs i) (dispatchChannel rs cs i)) (good (dispatch (i .0)))
+        go : (n : ℕ) → outCountOf rs (i .0) ≡ n → StepFollows rs cs P s (outcome (dispatchNumber rs cs i) (dispatchRegisters rs cs i) (dispatchChannel rs cs i)) (good (Step.dispatch (i .0)))
         go zero e =
-            follows rs cs P s z (dispatchNumber rs cs i) (dispatchRegisters rs cs i) (dispatchChannel rs cs i) (dispatch (i .0)) refl
+            follows rs cs P s z (dispatchNumber rs cs i) (dispatchRegisters rs cs i) (dispatchChannel rs cs i) (Step.dispatch (i .0)) refl
             (rw (e, out-none e)) (λ q. absurd (none q)) (λ q. rw e (refl, refl))
           where
             none : dispatchNumber rs cs i ≡ 0 → ⊥
@@ -191,8 +192,8 @@ module _ (rs cs : List ℕ) (P : Placement) (s : Published) (z : Ready rs cs P s
         go (suc n) e =
             let k = head-called n e in
             let f : eqb (outCountOf rs (i .0)) 0 ≡ false = ne-eqb (outCountOf rs (i .0)) 0 (omega arith) in
-            let number : dispatchNumber rs cs i ≡ callNumber cs call = rw f in
-            follows rs cs P s z (dispatchNumber rs cs i) (dispatchRegisters rs cs i) (dispatchChannel rs cs i) (dispatch (i .0)) refl
-            (rw (f, out-head n e, z .cards=) (k .number))
-            (λ q. rw (q, f, out-head n e) (dispatched n e (sym number ∙ q)))
-            (λ q. rw (ne-eqb (dispatchNumber rs cs i) 0 q, f) (refl, k .untouched (λ r. q (number ∙ r))))
+            let same : dispatchNumber rs cs i ≡ number = rw f in
+            follows rs cs P s z (dispatchNumber rs cs i) (dispatchRegisters rs cs i) (dispatchChannel rs cs i) (Step.dispatch (i .0)) refl
+            (rw (f, out-head n e, z .cards=) (k .number ∙ dispatch-refusal mail (cardsOf cs) (s .channel) (i .0) (plain first)))
+            (λ q. rw (q, f, out-head n e) (dispatched n e (sym same ∙ q)))
+            (λ q. rw (ne-eqb (dispatchNumber rs cs i) 0 q, f) (refl, k .untouched (λ r. q (same ∙ r))))

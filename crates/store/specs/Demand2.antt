@@ -6,12 +6,10 @@ use mathlib.Core.Logic.{_≢_}
 use mathlib.Core.Bool.{false, true}
 use mathlib.Core.List.{List}
 use lib.ListN.{length}
-use Rattle.names.specs.declared.Answer.{Answer}
 use Rattle.names.specs.Placement.{Placement}
 use Rattle.claims.specs.Steps.{RawStep, Decoded, decode}
 use Rattle.claims.specs.Published.{Published}
 use Rattle.claims.specs.PublishedRun.{answerDecoded, afterDecoded}
-use Rattle.claims.specs.PublishedRun as Pub
 use Rattle.store.specs.Sized.{storeSized}
 use Rattle.store.specs.Step.{Outcome, outcome, stepped}
 use Rattle.store.specs.Shows.{StoreShows}
@@ -23,14 +21,10 @@ pub record Stands (rs cs : List ℕ) (P : Placement) (s : Published) : Type 0 wh
   pub sized : storeSized rs cs ≡ true
   pub shows : StoreShows rs cs P s
 
--- the store's answer, as the answer file has it
-abbrev pub said : Answer → Pub.Answer
-said a = record { result = a .result; value = a .value }
-
 -- what a step leaves of memories that show P and s, where it is d
 pub record StepFollows (rs cs : List ℕ) (P : Placement) (s : Published) (o : Outcome) (d : Decoded) : Type 0 where
   -- the refusal of the published state, or 0 and the value read
-  pub answer= : said (o .answer) ≡ answerDecoded P s d
+  pub answer= : o .answer ≡ answerDecoded P s d
   -- the memories show the published state after the step, and are well sized
   pub stands : Stands (o .registers) (o .channel) P (afterDecoded P s d)
   -- "6 to 35: state unchanged"

@@ -2,13 +2,12 @@
 -- meanwhile" (01, "What demand 3 speaks of").
 use Prim.Native.Nat.{ℕ}
 use mathlib.Core.List.{List, [], _∷_}
+use Rattle.names.specs.declared.Answer.{Answer}
 use Rattle.names.specs.Placement.{Placement}
 use Rattle.claims.specs.Steps.{RawStep}
-use Rattle.claims.specs.PublishedRun.{Answer}
 use Rattle.store.specs.Layout.{copyOf}
 use Rattle.store.specs.Start.{startRegisters, startChannel}
 use Rattle.store.specs.Step.{advanced, stepped}
-use Rattle.store.specs.Demand2.{said}
 
 -- the two memories
 pub record Store : Type 0 where
@@ -27,7 +26,7 @@ next m a = record {
 }
 
 abbrev pub answer : Store → RawStep → Answer
-answer m a = said (stepped (m .registers) (m .channel) (a .code) (a .argument) .answer)
+answer m a = stepped (m .registers) (m .channel) (a .code) (a .argument) .answer
 
 -- a list of steps
 abbrev pub storeAfter : Store → List RawStep → Store
@@ -51,7 +50,7 @@ advanceAll m (a ∷ l) = advanceAll (advance m a) l
 
 abbrev pub answersAdvancing : Store → List RawStep → List Answer
 answersAdvancing m [] = []
-answersAdvancing m (a ∷ l) = said (advanced (m .registers) (m .channel) (a .code) (a .argument) .answer) ∷ answersAdvancing (advance m a) l
+answersAdvancing m (a ∷ l) = advanced (m .registers) (m .channel) (a .code) (a .argument) .answer ∷ answersAdvancing (advance m a) l
 
 -- "the store's table of copies"
 abbrev pub tableOf : Store → ℕ → ℕ → ℕ

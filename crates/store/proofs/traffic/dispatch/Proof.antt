@@ -7,7 +7,6 @@ use Rattle.store.proofs.traffic.dispatch.Statement.{statement}
 use Rattle.store.proofs.traffic.dispatch.Tie as tie
 use Rattle.store.proofs.traffic.dispatch.Reads as reads
 use Rattle.store.proofs.traffic.dispatch.Lts as lts
-use Rattle.channel.proofs.dispatch.Reads as dispatch-reads
 use Rattle.store.proofs.outbox.count.Reads as count-reads
 use Rattle.store.proofs.outbox.first.Reads as first-reads
 use Rattle.store.proofs.outbox.unpost.Reads as unpost-reads

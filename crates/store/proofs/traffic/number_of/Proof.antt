@@ -1,5 +1,4 @@
-use Rattle.lists.specs.Tests.{cases}
-use Rattle.channel.specs.Answers.{answerNumber}
+use Rattle.channel.proofs.OfferedCalls.{numbers}
 use borrow.Author.Needs.{needs}
 use Rattle.store.proofs.traffic.number_of.Statement.{statement}
 use Rattle.store.proofs.traffic.number_of.Tie as tie
@@ -34,40 +33,31 @@ enum-told-9 : tie.Need-enum-told-9
 enum-told-9 c = search needs
 
 returns : tie.Need-returns
-unfolding answerNumber
-returns c = search (needs, cases)
+returns c = simp (c .enum-told .given .1, numbers)
 
 returns-2 : tie.Need-returns-2
-unfolding answerNumber
-returns-2 c = search (needs, cases)
+returns-2 c = simp (c .enum-told2 .given .1, numbers)
 
 returns-3 : tie.Need-returns-3
-unfolding answerNumber
-returns-3 c = search (needs, cases)
+returns-3 c = simp (c .enum-told3 .given .1, numbers)
 
 returns-4 : tie.Need-returns-4
-unfolding answerNumber
-returns-4 c = search (needs, cases)
+returns-4 c = simp (c .enum-told4 .given .1, numbers)
 
 returns-5 : tie.Need-returns-5
-unfolding answerNumber
-returns-5 c = search (needs, cases)
+returns-5 c = simp (c .enum-told5 .given .1, numbers)
 
 returns-6 : tie.Need-returns-6
-unfolding answerNumber
-returns-6 c = search (needs, cases)
+returns-6 c = simp (c .enum-told6 .given .1, numbers)
 
 returns-7 : tie.Need-returns-7
-unfolding answerNumber
-returns-7 c = search (needs, cases)
+returns-7 c = simp (c .enum-told7 .given .1, numbers)
 
 returns-8 : tie.Need-returns-8
-unfolding answerNumber
-returns-8 c = search (needs, cases)
+returns-8 c = simp (c .enum-told8 .given .1, numbers)
 
 returns-9 : tie.Need-returns-9
-unfolding answerNumber
-returns-9 c = search (needs, cases)
+returns-9 c = simp (c .enum-told9 .given .1, numbers)
 
 pub number-of-spec : {M : Type 1} → statement M
 number-of-spec =

@@ -1,0 +1,140 @@
+-- The four calls for a layer above: on a memory that is well sized and shows a state, a call whose names are in range does what the idealised
+-- channel's operation does, and answers its refusal. And the same channel with its letters under other names.
+use Prim.Native.Nat.{ℕ, _<_}
+use mathlib.Core.Path.{_≡_, refl, sym, ap, _∙_}
+use mathlib.Core.Logic.{_≢_}
+use mathlib.Core.Bool.{Bool, true, false, cond}
+use mathlib.Core.List.{List}
+use borrow.Author.Tests.{eqb-true, lt-ltb}
+use lib.Dec.{eqb}
+use lib.ListN.{length}
+use Rattle.names.specs.declared.Card.{Card}
+use Rattle.names.specs.declared.Task.{Task}
+use Rattle.names.specs.declared.Message.{Message}
+use Rattle.names.specs.declared.Letter.{Letter}
+use Rattle.channel.specs.declared.Answer.the-variants.{Done, BadSize, IllSized, NoTask, NoCard, NoBroadcast, NoneInFlight, FarBehind, Crowded}
+use Rattle.channel.specs.declared.Received.the-variants.{Got}
+use Rattle.channel.specs.Mail.{Mail}
+use Rattle.channel.specs.State.{ChannelState, ChannelAction, dispatch, takeBroadcast, takeSingle, deliver, nth, channelStep}
+use Rattle.channel.specs.Refusals.{dispatchRefusal, takeRefusal, singleRefusal, channelRefusal}
+use Rattle.channel.specs.Layout.{cardsOf, tasksOf}
+use Rattle.channel.specs.Letters.{fits}
+use Rattle.channel.specs.Answers.{answerNumber, receivedNumber}
+use Rattle.channel.specs.Inbox.{receiveAnswer, receiveMemory}
+use Rattle.channel.specs.TakeBroadcast.{takeAnswer, takeMemory}
+use Rattle.channel.specs.TakeSingle.{singleAnswer, singleMemory}
+use Rattle.channel.specs.Dispatch.{letterOf, dispatchAnswer, dispatchMemory}
+use Rattle.channel.specs.Sized.{wellSized}
+use Rattle.channel.specs.Shows.{letterMail, Shows}
+use Rattle.channel.specs.Calls.{done}
+use Rattle.channel.specs.MemoryCalls.{Call, dispatchCall, takeBroadcastCall, takeSingleCall, receiveCall, callNumber, callMemory, actionOf, orElse, absent, unfit, callRefusal, letters, SameSizes, CallFollows}
+use Rattle.channel.proofs.CallLaws.{refused-is, call-follows}
+pub use Rattle.channel.proofs.RenamedRefusals.{channelRefusal-map}
+pub use Rattle.channel.proofs.RenamedSteps.{channelStep-map}
+
+-- the call that is operation x answers n and leaves us
+pub record Passes (ws : List ℕ) (w : ChannelState Letter) (x : ChannelAction Letter) (n : ℕ) (us : List ℕ) : Type 0 where
+  pub number : n ≡ channelRefusal letterMail (cardsOf ws) w x
+  pub shows : n ≡ 0 → Shows us (channelStep letterMail w x)
+  pub untouched : n ≢ 0 → us ≡ ws
+  pub sized : wellSized us ≡ true
+  pub long : length us ≡ 4808
+  pub sizes : SameSizes us ws
+
+fine : (r : ℕ) → orElse r 0 ≡ r
+fine r = go (eqb r 0) refl
+  where
+    go : (b : Bool) → eqb r 0 ≡ b → cond b 0 r ≡ r
+    go true e = sym (eqb-true r 0 e)
+    go false e = refl
+
+module _ (ws : List ℕ) (w : ChannelState Letter) (long : length ws ≡ 4808) (ok : wellSized ws ≡ true) (v : Shows ws w) where
+  passes : (c : Call) → absent ws (actionOf c) ≡ 0 → unfit ws (actionOf c) ≡ 0 → Passes ws w (actionOf c) (callNumber ws c) (callMemory ws c)
+  unfolding callRefusal
+  passes c there fit = record {
+    number = k .number ∙ rw (there, fit) (fine _);
+    shows = λ e. let d : done (letters ws) w (actionOf c) ≡ true = refused-is ws w (actionOf c) ∙ ap (λ r. eqb r 0) (sym (k .number) ∙ e) in rw d at (k .shows);
+    untouched = k .untouched;
+    sized = k .sized;
+    long = k .long;
+    sizes = k .sizes;
+  }
+    where
+      k : CallFollows ws w c
+      k = call-follows ws w long ok v c
+
+  pub dispatch-passes : (card : Card) (m : Message) (to : ℕ) → card .0 < cardsOf ws → fits ws (letterOf card m to) ≡ true
+      → Passes ws w (dispatch (card .0) (letterOf card m to)) (answerNumber (dispatchAnswer ws card m to)) (dispatchMemory ws card m to)
+  unfolding callNumber callMemory
+  dispatch-passes card m to h f = passes (dispatchCall card m to) (rw (lt-ltb (card .0) (cardsOf ws) h)) (rw f)
+
+  pub take-broadcast-passes : (card : Card) → card .0 < cardsOf ws → Passes ws w (takeBroadcast (card .0)) (answerNumber (takeAnswer ws card)) (takeMemory ws card)
+  unfolding callNumber callMemory
+  take-broadcast-passes card h = passes (takeBroadcastCall card) (rw (lt-ltb (card .0) (cardsOf ws) h)) refl
+
+  pub take-single-passes : (task : Task) → task .0 < tasksOf ws → Passes ws w (takeSingle (task .0)) (answerNumber (singleAnswer ws task)) (singleMemory ws task)
+  unfolding callNumber callMemory
+  take-single-passes task h = passes (takeSingleCall task) (rw (lt-ltb (task .0) (tasksOf ws) h)) refl
+
+  pub receive-passes : (card : Card) → card .0 < cardsOf ws → Passes ws w (deliver (card .0)) (receivedNumber (receiveAnswer ws card)) (receiveMemory ws card)
+  unfolding callNumber callMemory
+  receive-passes card h = passes (receiveCall card) (rw (lt-ltb (card .0) (cardsOf ws) h)) refl
+
+-- ---- the refusals, operation by operation
+
+module _ {M : Type 0} (mail : Mail M) (cards : ℕ) (w : ChannelState M) where
+  pub dispatch-refusal : (i : ℕ) (m : M) → channelRefusal mail cards w (dispatch i m) ≡ dispatchRefusal mail cards w m
+  unfolding channelRefusal
+  dispatch-refusal i m = refl
+
+  pub take-broadcast-refusal : (i : ℕ) → channelRefusal mail cards w (takeBroadcast i) ≡ takeRefusal mail cards w i (nth (w .sent) (w .taken i))
+  unfolding channelRefusal
+  take-broadcast-refusal i = refl
+
+  pub take-single-refusal : (c : ℕ) → channelRefusal mail cards w (takeSingle c) ≡ singleRefusal mail cards w (w .flight c)
+  unfolding channelRefusal
+  take-single-refusal c = refl
+
+-- ---- the numbers of the answers
+
+pub done-number : answerNumber Done ≡ 0
+unfolding answerNumber
+done-number = refl
+
+pub bad-size-number : answerNumber BadSize ≡ 3
+unfolding answerNumber
+bad-size-number = refl
+
+pub ill-sized-number : answerNumber IllSized ≡ 6
+unfolding answerNumber
+ill-sized-number = refl
+
+pub no-task-number : answerNumber NoTask ≡ 12
+unfolding answerNumber
+no-task-number = refl
+
+pub no-card-number : answerNumber NoCard ≡ 14
+unfolding answerNumber
+no-card-number = refl
+
+pub no-broadcast-number : answerNumber NoBroadcast ≡ 31
+unfolding answerNumber
+no-broadcast-number = refl
+
+pub none-in-flight-number : answerNumber NoneInFlight ≡ 32
+unfolding answerNumber
+none-in-flight-number = refl
+
+pub far-behind-number : answerNumber FarBehind ≡ 34
+unfolding answerNumber
+far-behind-number = refl
+
+pub crowded-number : answerNumber Crowded ≡ 35
+unfolding answerNumber
+crowded-number = refl
+
+pub ruleset numbers = (done-number, bad-size-number, ill-sized-number, no-task-number, no-card-number, no-broadcast-number, none-in-flight-number, far-behind-number, crowded-number)
+
+pub got-number : (m : Message) → receivedNumber (Got m) ≡ 0
+unfolding receivedNumber
+got-number m = refl
