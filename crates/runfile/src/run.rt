@@ -41,7 +41,7 @@ fn begin(file: &[u8], registers: &mut [u32; 1544], channel: &mut [u32; 4808])
 
 // The code of step k, where the codes begin at a place.
 fn code_from(file: &[u8], codes: usize, k: usize) -> u8
-    requires { ⌜ (codes ≡ codesAt (now file)) × (k < stepsIn (now file)) × (stepsIn (now file) ≤ 4096) × (codes ≤ 770) × (codesAt (now file) + stepsIn (now file) ≤ length (now file)) ⌝ }
+    requires { ⌜ (codes ≡ codesAt (now file)) × (k < stepsIn (now file)) × (argumentsAt (now file) ≤ length (now file)) ⌝ }
     ensures { λ r. ⌜ r ≡ codeIn (now (file .entry)) k ⌝ }
 {
     file[codes + k]
@@ -49,7 +49,7 @@ fn code_from(file: &[u8], codes: usize, k: usize) -> u8
 
 // The argument of step k, where the arguments begin at a place.
 fn argument_from(file: &[u8], arguments: usize, k: usize) -> [u8; 8]
-    requires { ⌜ (arguments ≡ argumentsAt (now file)) × (k < stepsIn (now file)) × (stepsIn (now file) ≤ 4096) × (arguments ≤ 66305) × (argumentsAt (now file) + 8 * stepsIn (now file) ≤ length (now file)) ⌝ }
+    requires { ⌜ (arguments ≡ argumentsAt (now file)) × (k < stepsIn (now file)) × (argumentsAt (now file) + 8 * stepsIn (now file) ≤ length (now file)) ⌝ }
     ensures { λ r. ⌜ r ≡ argumentIn (now (file .entry)) k ⌝ }
 {
     let at = arguments + 8 * k;
