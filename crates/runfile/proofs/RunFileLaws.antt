@@ -31,7 +31,7 @@ module _ (s : List ℕ) where
       ((c : ℕ) → c < tasksIn s → getD s (5 + c) 0 < cardsIn s)
       × ((x : ℕ) → x < registersIn s → Lies (cardsIn s) (getD s (5 + tasksIn s + x) 0) (getD s (5 + tasksIn s + registersIn s + x) 0))
 
-  sizes-are : (sizesSound s ≡ true) ↔ SizesInRange
+  pub sizes-are : (sizesSound s ≡ true) ↔ SizesInRange
   unfolding sizesSound
   sizes-are =
       let r = in-range (cardsIn s) (registersIn s) (tasksIn s) in

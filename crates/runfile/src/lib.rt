@@ -13,6 +13,7 @@ pub mod answer_file;
 mod run;
 
 pub use run::answer;
+pub use run::reply;
 
 // The sizes that a run file gives first.
 pub struct Sizes {

@@ -1,11 +1,12 @@
 // A whole run: the file is judged, the store is started from its placement, and each step's answer is written as it comes.
 ghost use mathlib.Core.Path.{_≡_};
 ghost use Prim.Native.Nat.{_+_, _*_, _≤_, _<_};
-ghost use lib.ListN.{length};
+ghost use mathlib.Core.List.{_++_};
+ghost use lib.ListN.{length, drop};
 ghost use Rattle.runfile.specs.RunFile.{stepsIn, codesAt, argumentsAt, fileLength, placementIn, codeIn, argumentIn, stepIn, fileRefusal};
 ghost use Rattle.runfile.specs.AnswerFile.{headed, putAnswer, putAnswers};
 ghost use Rattle.runfile.specs.Stepwise.{stored, storeAt, answerAt, takenOne, refusedOne, counted};
-ghost use Rattle.runfile.specs.Run.{answerOutput, answeredOf};
+ghost use Rattle.runfile.specs.Run.{answerOf, answerOutput, answeredOf};
 ghost use Rattle.store.specs.Start.{startRegisters, startChannel};
 ghost use Rattle.store.specs.Step.{advanced};
 use super::answer_file::put_answer;
@@ -175,4 +176,19 @@ pub fn answer(file: &[u8], out: &mut [u8]) -> Answered
         };
     }
     whole(file, out)
+}
+
+// The answer file, or the refusal as one byte, at the start of an output that has room for any; the rest of it is untouched. The result is
+// how many bytes that is.
+pub fn reply(file: &[u8], out: &mut [u8; 20482]) -> usize
+    ensures count { λ r. ⌜ r ≡ length (answerOf (now (file .entry))) ⌝ }
+    ensures output { λ _. ⌜ now (out .exit) ≡ answerOf (now (file .entry)) ++ drop (length (answerOf (now (file .entry)))) (now (out .entry)) ⌝ }
+{
+    let said = answer(file, out);
+    let number = said.refusal;
+    if number != 0 {
+        out[0] = number;
+        return 1;
+    }
+    2 + 5 * wide(steps(file))
 }
