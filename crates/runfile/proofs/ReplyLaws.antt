@@ -1,5 +1,5 @@
 -- What a program writes: an output of 20,482 bytes has room for every answer file, so only the file can be refused.
-use Prim.Native.Nat.{ℕ, _+_, _*_}
+use Prim.Native.Nat.{ℕ, _+_, _*_, _≤_}
 use mathlib.Core.Path.{_≡_, refl, sym, ap, ap₂, _∙_}
 use mathlib.Core.Logic.{_≢_}
 use mathlib.Core.Bool.{Bool, true, false, cond}
@@ -13,6 +13,10 @@ use Rattle.runfile.specs.RunFile.{stepsIn, fileRefusal}
 use Rattle.runfile.specs.Run.{answersIn, answerOf, answerRefusal, answerOutput, takenOf, refusedOf, answeredOf}
 use Rattle.runfile.proofs.RunFileLaws.{accepted-most}
 use Rattle.runfile.proofs.FileRun.{answer-length, answer-written, output-untouched}
+
+refused-byte : (file : List ℕ) → eqb (fileRefusal file) 0 ≡ false → answerOf file ≡ fileRefusal file ∷ []
+unfolding answerOf
+refused-byte file e = rw e
 
 set-first : (v : ℕ) (out : List ℕ) → length out ≢ 0 → set out 0 v ≡ v ∷ drop 1 out
 set-first v [] n = absurd (n refl)
@@ -41,8 +45,7 @@ module _ (file out : List ℕ) (room : length out ≡ 20482) where
 
   module _ (no : answeredOf file out .refusal ≢ 0) where
     refused-answer : answerOf file ≡ fileRefusal file ∷ []
-    unfolding answerOf
-    refused-answer = rw (ne-eqb (fileRefusal file) 0 (λ e. no (number-is ∙ only-file ∙ e)))
+    refused-answer = refused-byte file (ne-eqb (fileRefusal file) 0 (λ e. no (number-is ∙ only-file ∙ e)))
 
     pub refused-count : 1 ≡ length (answerOf file)
     refused-count = sym (ap length refused-answer)
