@@ -1,3 +1,12 @@
+-- Run files and answer files
 pub mod Joined
 pub mod AnswerLaws
 pub mod RunFileLaws
+pub mod LongFile
+-- Whole runs
+pub mod Eight
+pub mod StepwiseLaws
+pub mod RunLaws
+pub mod AnswersFrom
+pub mod FileRun
+pub mod ReplyLaws

@@ -31,7 +31,7 @@ module _ (s : List ℕ) where
       ((c : ℕ) → c < tasksIn s → getD s (5 + c) 0 < cardsIn s)
       × ((x : ℕ) → x < registersIn s → Lies (cardsIn s) (getD s (5 + tasksIn s + x) 0) (getD s (5 + tasksIn s + registersIn s + x) 0))
 
-  sizes-are : (sizesSound s ≡ true) ↔ SizesInRange
+  pub sizes-are : (sizesSound s ≡ true) ↔ SizesInRange
   unfolding sizesSound
   sizes-are =
       let r = in-range (cardsIn s) (registersIn s) (tasksIn s) in
@@ -172,6 +172,9 @@ module _ (s : List ℕ) (ok : fileRefusal s ≡ 0) where
       let range : InRange (cardsIn s) (registers (placementIn s)) (tasks (placementIn s)) = rw (accepted-tasks, accepted-registers) (facts .0 .0) in
       let sizes : Sized (placementIn s) = (range, primaries-length s (facts .1) ∙ sym accepted-registers) in
       placement-verdict (placementIn s) 0 .1 (accepted-one sizes (placed-is (placementIn s) .0 (well-placed s (facts .1) .1 (facts .2))))
+
+  pub accepted-most : stepsIn s ≤ 4096
+  accepted-most = facts .0 .1
 
   pub accepted-steps : length (runFileIn s .steps) ≡ stepsIn s
   accepted-steps = listing-length (stepIn s) (stepsIn s)

@@ -1,2 +1,6 @@
 pub mod RunFile
 pub mod AnswerFile
+-- Whole runs
+pub mod Run
+pub mod Stepwise
+pub mod FileRun

@@ -1,0 +1,60 @@
+use Prim.Native.Nat.{ℕ, _≤_}
+use mathlib.Core.Path.{_≡_, ap, _∙_}
+use mathlib.Core.List.{List, _++_}
+use native.Mathlib.Omega.{arith}
+use lib.ListN.{length, length-append, length-take}
+use borrow.Author.Needs.{needs}
+use Rattle.runfile.specs.Run.{answerOf}
+use Rattle.gondzselu.proofs.main.Statement.{statement}
+use Rattle.gondzselu.proofs.main.Tie as tie
+
+-- the answer lies within the output that begins with it
+within : (file rest : List ℕ) {out : List ℕ} {n : ℕ} → n ≡ length (answerOf file) → out ≡ answerOf file ++ rest → n ≤ length out
+within file rest e q = omega (arith, ap length q ∙ length-append (answerOf file) rest)
+
+large-buffer-requires : tie.Need-large-buffer-requires
+large-buffer-requires c κs = search needs
+
+slice-aggregate-read-full : tie.Need-slice-aggregate-read-full
+slice-aggregate-read-full c = search needs
+
+read-full-requires : tie.Need-read-full-requires
+read-full-requires c κs = search needs
+
+array-share-prefix-input : tie.Need-array-share-prefix-input
+array-share-prefix-input c = search needs
+
+slice-aggregate-reply : tie.Need-slice-aggregate-reply
+slice-aggregate-reply c = search needs
+
+reply-requires : tie.Need-reply-requires
+reply-requires c κs = search needs
+
+array-share-prefix-out : tie.Need-array-share-prefix-out
+array-share-prefix-out c = within _ _ (c .reply .ensures .0) (c .reply .ensures .1)
+
+slice-aggregate-write-all : tie.Need-slice-aggregate-write-all
+slice-aggregate-write-all c =
+    let h = within _ _ (c .before .reply .ensures .0) (c .before .reply .ensures .1) in
+    omega (arith, length-take (c .before .reply .result) (c .before .reply .last .1 .0))
+
+write-all-requires : tie.Need-write-all-requires
+write-all-requires c κs = search needs
+
+returns : tie.Need-returns
+returns c = search needs
+
+pub main-spec : {M : Type 1} → statement M
+main-spec =
+    tie.close
+    (tie.spec
+    large-buffer-requires
+    slice-aggregate-read-full
+    read-full-requires
+    array-share-prefix-input
+    slice-aggregate-reply
+    reply-requires
+    array-share-prefix-out
+    slice-aggregate-write-all
+    write-all-requires
+    returns)
