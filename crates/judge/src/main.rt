@@ -198,7 +198,7 @@ fn read(file: &[u8]) {
 fn write(name: &[u8], out: &mut [u8], results: &[u8], values: &[u32]) {
     io::write_all(1, name);
     io::write_all(1, b": ");
-    io::print_decimal(1, runfile::answer::write(out, results, values) as u64);
+    io::print_decimal(1, runfile::answer_file::write(out, results, values) as u64);
     io::write_all(1, b",");
     show(out);
 }

@@ -173,6 +173,9 @@ module _ (s : List ℕ) (ok : fileRefusal s ≡ 0) where
       let sizes : Sized (placementIn s) = (range, primaries-length s (facts .1) ∙ sym accepted-registers) in
       placement-verdict (placementIn s) 0 .1 (accepted-one sizes (placed-is (placementIn s) .0 (well-placed s (facts .1) .1 (facts .2))))
 
+  pub accepted-most : stepsIn s ≤ 4096
+  accepted-most = facts .0 .1
+
   pub accepted-steps : length (runFileIn s .steps) ≡ stepsIn s
   accepted-steps = listing-length (stepIn s) (stepsIn s)
 

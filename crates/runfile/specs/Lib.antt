@@ -1,2 +1,4 @@
 pub mod RunFile
 pub mod AnswerFile
+pub mod Run
+pub mod Stepwise

@@ -9,7 +9,10 @@ use names::Card;
 use names::Register;
 use names::Task;
 
-pub mod answer;
+pub mod answer_file;
+mod run;
+
+pub use run::answer;
 
 // The sizes that a run file gives first.
 pub struct Sizes {
@@ -17,6 +20,13 @@ pub struct Sizes {
     pub registers: u32,
     pub tasks: u32,
     pub steps: u32,
+}
+
+// What is said of a whole run: 0 and how many steps were taken and refused, or the refusal of the file or of the output, and no steps.
+pub struct Answered {
+    pub refusal: u8,
+    pub taken: u32,
+    pub refused: u32,
 }
 
 // What the reader says of a file: accepted, with its sizes, or refused with its number.

@@ -1,8 +1,8 @@
 use mathlib.Core.Path.{refl}
 use Rattle.runfile.specs.AnswerFile.{headed}
 use borrow.Author.Needs.{needs}
-use Rattle.runfile.proofs.answer.put_count.Statement.{statement}
-use Rattle.runfile.proofs.answer.put_count.Tie as tie
+use Rattle.runfile.proofs.answer_file.put_count.Statement.{statement}
+use Rattle.runfile.proofs.answer_file.put_count.Tie as tie
 
 cast-out : tie.Need-cast-out
 cast-out c = search needs

@@ -5,8 +5,8 @@ use lib.ListN.{length}
 use Rattle.lists.specs.Loops.{turns-zero, turns-more}
 use borrow.Author.Needs.{needs}
 use Rattle.runfile.specs.AnswerFile.{answerAt, putAnswers}
-use Rattle.runfile.proofs.answer.put_tables.Statement.{statement}
-use Rattle.runfile.proofs.answer.put_tables.Tie as tie
+use Rattle.runfile.proofs.answer_file.put_tables.Statement.{statement}
+use Rattle.runfile.proofs.answer_file.put_tables.Tie as tie
 
 abbrev Inv-loop : tie.InvT-loop
 Inv-loop out₀ results values n k₀ out k = (k ≤ n) × (length out ≡ length out₀) × (out ≡ putAnswers n (answerAt results values) k out₀)

@@ -4,8 +4,8 @@ use native.Mathlib.Omega.{arith}
 use lib.ListN.{length-set}
 use Rattle.runfile.specs.AnswerFile.{wordStored}
 use borrow.Author.Needs.{needs}
-use Rattle.runfile.proofs.answer.fill_value.Statement.{statement}
-use Rattle.runfile.proofs.answer.fill_value.Tie as tie
+use Rattle.runfile.proofs.answer_file.fill_value.Statement.{statement}
+use Rattle.runfile.proofs.answer_file.fill_value.Tie as tie
 
 mul-at : tie.Need-mul-at
 mul-at c = search needs

@@ -6,8 +6,8 @@ use native.Mathlib.Omega.{arith}
 use lib.ListN.{set, drop, length-set, length-drop, length-take, length-append}
 use Rattle.lists.specs.Parts.{tail-part, tail-rest, sets-in-tail}
 use borrow.Author.Needs.{needs}
-use Rattle.runfile.proofs.answer.put_answer.Statement.{statement}
-use Rattle.runfile.proofs.answer.put_answer.Tie as tie
+use Rattle.runfile.proofs.answer_file.put_answer.Statement.{statement}
+use Rattle.runfile.proofs.answer_file.put_answer.Tie as tie
 
 add-out : tie.Need-add-out
 add-out c = search needs

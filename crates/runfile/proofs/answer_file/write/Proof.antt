@@ -6,8 +6,8 @@ use mathlib.Core.Path.{_∙_}
 use lib.ListN.{length}
 use Rattle.lists.specs.Tests.{cases}
 use borrow.Author.Needs.{needs}
-use Rattle.runfile.proofs.answer.write.Statement.{statement}
-use Rattle.runfile.proofs.answer.write.Tie as tie
+use Rattle.runfile.proofs.answer_file.write.Statement.{statement}
+use Rattle.runfile.proofs.answer_file.write.Tie as tie
 
 returns : tie.Need-returns
 unfolding writeRefusal written

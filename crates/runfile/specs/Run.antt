@@ -1,0 +1,43 @@
+-- A whole run: from the bytes of a run file to those of its answer file (01, "Run file and answer file").
+use Prim.Native.Nat.{ℕ, _+_, _*_}
+use mathlib.Core.Bool.{cond, not}
+use mathlib.Core.List.{List, [], _∷_}
+use lib.Dec.{eqb, ltb}
+use lib.ListN.{length}
+use Rattle.lists.specs.Filters.{filter}
+use Rattle.names.specs.declared.Answer.{Answer}
+use Rattle.claims.specs.Published.{begin}
+use Rattle.claims.specs.PublishedRun.{answersFrom}
+use Rattle.runfile.specs.declared.Answered.{Answered}
+use Rattle.runfile.specs.RunFile.{stepsIn, placementIn, runFileIn, fileRefusal}
+use Rattle.runfile.specs.AnswerFile.{answerBytes, answered}
+
+-- what the published algorithm answers to the steps of a file, begun from its placement
+unfoldable pub answersIn : List ℕ → List Answer
+answersIn file = answersFrom (placementIn file) begin (runFileIn file .steps)
+
+-- "The program reads a run file from standard input and writes its answer file; for a refused file it writes the refusal as one byte."
+unfoldable pub answerOf : List ℕ → List ℕ
+answerOf file = cond (eqb (fileRefusal file) 0) (answerBytes (answersIn file)) (fileRefusal file ∷ [])
+
+-- "Order: file 1 (under 5 bytes), 3, 1, 2, 4, then 5": 5 "output shorter than 2 + 5N"
+unfoldable pub answerRefusal : List ℕ → List ℕ → ℕ
+answerRefusal file out = cond (eqb (fileRefusal file) 0) (cond (ltb (length out) (2 + 5 * stepsIn file)) 5 0) (fileRefusal file)
+
+-- the lent output: "bytes past 2 + 5N are untouched", and all of it where the file or the output is refused
+unfoldable pub answerOutput : List ℕ → List ℕ → List ℕ
+answerOutput file out = cond (eqb (answerRefusal file out) 0) (answered (answersIn file) out) out
+
+-- "steps taken and steps refused": "result (a byte, 0 taken, else the refusal)"; "Every refusal of a step counts, 6 too."
+abbrev pub takenOf : List Answer → ℕ
+takenOf answers = length (filter (λ a. eqb (a .result) 0) answers)
+
+abbrev pub refusedOf : List Answer → ℕ
+refusedOf answers = length (filter (λ a. not (eqb (a .result) 0)) answers)
+
+-- what is said of a whole run: 0 and the counts of its steps, or the refusal and no steps
+unfoldable pub answeredOf : List ℕ → List ℕ → Answered
+answeredOf file out =
+    cond (eqb (answerRefusal file out) 0)
+    (record { refusal = 0; taken = takenOf (answersIn file); refused = refusedOf (answersIn file) })
+    (record { refusal = answerRefusal file out; taken = 0; refused = 0 })
