@@ -28,7 +28,8 @@ fn doing_of(kind: u32, register: Register, function: u32, value: u32) -> Doing
     Doing::DoneUpdate
 }
 
-fn kind_of(doing: Doing) -> u32
+// The number of what a task is doing.
+pub fn kind_of(doing: Doing) -> u32
     ensures { λ r. ⌜ r ≡ doingKind doing ⌝ }
 {
     match doing {
@@ -67,7 +68,8 @@ fn function_of(doing: Doing) -> u32
     }
 }
 
-fn value_of(doing: Doing) -> u32
+// The value that a task has read, or the operand of an update that it asks for.
+pub fn value_of(doing: Doing) -> u32
     ensures { λ r. ⌜ r ≡ doingValue doing ⌝ }
 {
     match doing {

@@ -19,6 +19,8 @@ mod steps;
 mod traffic;
 
 pub use begin::start;
+pub use doings::kind_of;
+pub use doings::value_of;
 pub use panel::doing_of;
 pub use panel::requests;
 pub use panel::value;

@@ -1,0 +1,162 @@
+// The store for firmware: functions that C and Rust call. The caller lends both memories of a store, whole; include/gondzselu.h declares what
+// is here.
+ghost use mathlib.Core.Path.{_≡_};
+ghost use Rattle.names.specs.Placement.{placement, placementRefusal};
+ghost use Rattle.channel.specs.Layout.{madeOf, takenBy};
+ghost use Rattle.store.specs.Layout.{requestsOf};
+ghost use Rattle.store.specs.Start.{startRegisters, startChannel};
+ghost use Rattle.store.specs.Step.{stepped};
+ghost use Rattle.store.specs.Panel.{valueShown, doingShown};
+ghost use Rattle.store.specs.Doings.{doingKind, doingValue};
+ghost use Rattle.runfile.specs.Run.{answerRefusal, answerOutput};
+ghost use Rattle.tally.specs.Tally.{tallyOf};
+ghost use Rattle.firmware.specs.RunTally.{ranTally};
+use names::Card;
+use names::Register;
+use names::Task;
+
+// ---- sizes of the memories, in words of 32 bits
+
+#[no_mangle]
+pub extern "C" fn gondzselu_registers_words() -> usize
+    ensures { λ r. ⌜ r ≡ 1544 ⌝ }
+{
+    1544
+}
+
+#[no_mangle]
+pub extern "C" fn gondzselu_channel_words() -> usize
+    ensures { λ r. ⌜ r ≡ 4808 ⌝ }
+{
+    4808
+}
+
+// ---- a whole run
+
+// Answers a run file into a lent output: 0, or the refusal of the file or of the output (5) and the output as it was.
+#[no_mangle]
+pub extern "C" fn gondzselu_answer(file: &[u8], out: &mut [u8]) -> u8
+    ensures output { λ _. ⌜ now (out .exit) ≡ answerOutput (now (file .entry)) (now (out .entry)) ⌝ }
+    ensures number { λ r. ⌜ r ≡ answerRefusal (now (file .entry)) (now (out .entry)) ⌝ }
+{
+    let said = runfile::answer(file, out);
+    said.refusal
+}
+
+// The same, with the run's steps counted in a lent tally, of which the two counts are passed. A refused file or output leaves it alone.
+#[no_mangle]
+pub extern "C" fn gondzselu_answer_counted(
+    file: &[u8],
+    out: &mut [u8],
+    taken: &mut u32,
+    refused: &mut u32,
+) -> u8
+    ensures output { λ _. ⌜ now (out .exit) ≡ answerOutput (now (file .entry)) (now (out .entry)) ⌝ }
+    ensures taken { λ _. ⌜ now (taken .exit) ≡ ranTally (now (file .entry)) (now (out .entry)) (tallyOf (now (taken .entry)) (now (refused .entry))) .taken ⌝ }
+    ensures refused { λ _. ⌜ now (refused .exit) ≡ ranTally (now (file .entry)) (now (out .entry)) (tallyOf (now (taken .entry)) (now (refused .entry))) .refused ⌝ }
+    ensures number { λ r. ⌜ r ≡ answerRefusal (now (file .entry)) (now (out .entry)) ⌝ }
+{
+    let said = runfile::answer(file, out);
+    let tally = tally::counted(*taken, *refused, said.taken, said.refused);
+    *taken = tally.taken;
+    *refused = tally.refused;
+    said.refusal
+}
+
+// ---- a store
+
+// Begins a store: 0, or the placement's refusal (3, 4) and both memories as they were.
+#[no_mangle]
+pub extern "C" fn gondzselu_start(
+    registers: &mut [u32; 1544],
+    channel: &mut [u32; 4808],
+    cards: u32,
+    homes: &[u8],
+    copies: &[u8],
+    primaries: &[u8],
+) -> u8
+    ensures registers { λ _. ⌜ now (registers .exit) ≡ startRegisters (placement cards (now (homes .entry)) (now (copies .entry)) (now (primaries .entry))) (now (registers .entry)) ⌝ }
+    ensures channel { λ _. ⌜ now (channel .exit) ≡ startChannel (placement cards (now (homes .entry)) (now (copies .entry)) (now (primaries .entry))) (now (channel .entry)) ⌝ }
+    ensures number { λ r. ⌜ r ≡ placementRefusal (placement cards (now (homes .entry)) (now (copies .entry)) (now (primaries .entry))) ⌝ }
+{
+    store::start(registers, channel, cards, homes, copies, primaries)
+}
+
+// One step: its result, 0 where it is taken, and its value.
+#[no_mangle]
+pub extern "C" fn gondzselu_step(
+    registers: &mut [u32; 1544],
+    channel: &mut [u32; 4808],
+    code: u8,
+    argument: &[u8; 8],
+    value: &mut u32,
+) -> u8
+    ensures registers { λ _. ⌜ now (registers .exit) ≡ stepped (now (registers .entry)) (now (channel .entry)) code (now (argument .entry)) .registers ⌝ }
+    ensures channel { λ _. ⌜ now (channel .exit) ≡ stepped (now (registers .entry)) (now (channel .entry)) code (now (argument .entry)) .channel ⌝ }
+    ensures value { λ _. ⌜ now (value .exit) ≡ stepped (now (registers .entry)) (now (channel .entry)) code (now (argument .entry)) .answer .value ⌝ }
+    ensures result { λ r. ⌜ r ≡ stepped (now (registers .entry)) (now (channel .entry)) code (now (argument .entry)) .answer .result ⌝ }
+{
+    let answer = store::step(registers, channel, code, *argument);
+    *value = answer.value;
+    answer.result
+}
+
+// ---- what a panel reads
+
+// The value of a card's copy of a register; 0 for an absent card or register.
+#[no_mangle]
+pub extern "C" fn gondzselu_copy(
+    registers: &[u32; 1544],
+    channel: &[u32; 4808],
+    card: u32,
+    register: u32,
+) -> u32
+    ensures { λ r. ⌜ r ≡ valueShown (now (registers .entry)) (now (channel .entry)) (record { 0 = card }) (record { 0 = register }) ⌝ }
+{
+    store::value(registers, channel, Card(card), Register(register))
+}
+
+// What a task is doing: 0 quiet, 1 asking for a read, 2 asking for an update, 3 waiting, 4 done with a read, 5 done with an update. An absent
+// task is quiet.
+#[no_mangle]
+pub extern "C" fn gondzselu_task(registers: &[u32; 1544], channel: &[u32; 4808], task: u32) -> u32
+    ensures { λ r. ⌜ r ≡ doingKind (doingShown (now (registers .entry)) (now (channel .entry)) (record { 0 = task })) ⌝ }
+{
+    store::kind_of(store::doing_of(registers, channel, Task(task)))
+}
+
+// The value read by a task that is done with a read, the operand of one that asks for an update; else 0.
+#[no_mangle]
+pub extern "C" fn gondzselu_task_value(
+    registers: &[u32; 1544],
+    channel: &[u32; 4808],
+    task: u32,
+) -> u32
+    ensures { λ r. ⌜ r ≡ doingValue (doingShown (now (registers .entry)) (now (channel .entry)) (record { 0 = task })) ⌝ }
+{
+    store::value_of(store::doing_of(registers, channel, Task(task)))
+}
+
+// Broadcasts made.
+#[no_mangle]
+pub extern "C" fn gondzselu_broadcasts(channel: &[u32; 4808]) -> u32
+    ensures { λ r. ⌜ r ≡ madeOf (now (channel .entry)) ⌝ }
+{
+    channel::made(channel)
+}
+
+// Broadcasts that a card has taken; 0 for an absent card.
+#[no_mangle]
+pub extern "C" fn gondzselu_broadcasts_taken(channel: &[u32; 4808], card: u32) -> u32
+    ensures { λ r. ⌜ r ≡ takenBy (now (channel .entry)) card ⌝ }
+{
+    channel::taken(channel, Card(card))
+}
+
+// Requests taken.
+#[no_mangle]
+pub extern "C" fn gondzselu_requests(registers: &[u32; 1544]) -> u32
+    ensures { λ r. ⌜ r ≡ requestsOf (now (registers .entry)) ⌝ }
+{
+    store::requests(registers)
+}

@@ -1,0 +1,119 @@
+-- What counting means: a count goes up by what is counted until it is at its largest value and then stays there, and counting the steps
+-- of a run at once is counting them one by one.
+use Prim.Native.Nat.{ℕ, zero, suc, _+_, _≤_, _<_}
+use mathlib.Core.Path.{_≡_, refl, sym, ap, ap₂, _∙_}
+use mathlib.Core.Logic.{_⊎_, inl, inr}
+use mathlib.Core.Bool.{Bool, true, false, cond, not}
+use mathlib.Core.List.{List, [], _∷_}
+use native.Mathlib.Decide.{decLt}
+use native.Mathlib.Omega.{arith}
+use lib.Dec.{eqb, ltb}
+use lib.ListN.{length}
+use borrow.Author.Tests.{lt-ltb, le-ltb, eq-eqb, ne-eqb}
+use Rattle.lists.specs.Loops.{turns, turns-zero, turns-suc}
+use Rattle.lists.specs.Filters.{keep, filter}
+use Rattle.tally.specs.declared.Tally.{Tally}
+use Rattle.tally.specs.Tally.{raised, tallyOf, counted, isTaken, countedStep, countedSteps, takenIn, refusedIn}
+
+-- ---- one count
+
+pub raised-below : (a n : ℕ) → a + n ≤ 4294967295 → raised a n ≡ a + n
+unfolding raised
+raised-below a n h = rw (le-ltb 4294967295 (a + n) h)
+
+pub raised-past : (a n : ℕ) → 4294967295 ≤ a + n → raised a n ≡ 4294967295
+unfolding raised
+raised-past a n h = go (decLt 4294967295 (a + n))
+  where
+    go : Dec (4294967295 < a + n) → raised a n ≡ 4294967295
+    go (yes l) = rw (lt-ltb 4294967295 (a + n) l)
+    go (no g) = rw (le-ltb 4294967295 (a + n) (omega arith)) (omega arith)
+
+-- "stays at its largest value once there"
+pub raised-stays : (n : ℕ) → raised 4294967295 n ≡ 4294967295
+raised-stays n = raised-past 4294967295 n (omega arith)
+
+-- a count in range is the number or the largest value
+pub raised-cases : (a n : ℕ) → ((a + n ≤ 4294967295) × (raised a n ≡ a + n)) ⊎ ((4294967295 < a + n) × (raised a n ≡ 4294967295))
+raised-cases a n = go (decLt 4294967295 (a + n))
+  where
+    go : Dec (4294967295 < a + n) → ((a + n ≤ 4294967295) × (raised a n ≡ a + n)) ⊎ ((4294967295 < a + n) × (raised a n ≡ 4294967295))
+    go (yes l) = inr (l, raised-past a n (omega arith))
+    go (no g) = inl (omega arith, raised-below a n (omega arith))
+
+pub raised-most : (a n : ℕ) → raised a n ≤ 4294967295
+raised-most a n = go (raised-cases a n)
+  where
+    go : ((a + n ≤ 4294967295) × (raised a n ≡ a + n)) ⊎ ((4294967295 < a + n) × (raised a n ≡ 4294967295)) → raised a n ≤ 4294967295
+    go (inl p) = let e = p .1 in let h = p .0 in omega arith
+    go (inr p) = let e = p .1 in omega arith
+
+-- by n, then by m: by n + m
+pub raised-again : (a n m : ℕ) → raised (raised a n) m ≡ raised a (n + m)
+raised-again a n m = go (raised-cases a n) (raised-cases a (n + m))
+  where
+    go : ((a + n ≤ 4294967295) × (raised a n ≡ a + n)) ⊎ ((4294967295 < a + n) × (raised a n ≡ 4294967295))
+        → ((a + (n + m) ≤ 4294967295) × (raised a (n + m) ≡ a + (n + m))) ⊎ ((4294967295 < a + (n + m)) × (raised a (n + m) ≡ 4294967295))
+        → raised (raised a n) m ≡ raised a (n + m)
+    go (inl p) (inl q) = let h = q .0 in rw (p .1, q .1, raised-below (a + n) m (omega arith)) (omega arith)
+    go (inl p) (inr q) = let h = q .0 in rw (p .1, q .1) (raised-past (a + n) m (omega arith))
+    go (inr p) (inl q) = let h = p .0 in let k = q .0 in absurd (omega arith)
+    go (inr p) (inr q) = rw (p .1, q .1) (raised-stays m)
+
+-- one by one, n times: by n
+pub one-by-one : (a n : ℕ) → a ≤ 4294967295 → turns (λ _ b. raised b 1) n a ≡ raised a n
+one-by-one a zero h = turns-zero (λ _ b. raised b 1) a ∙ (omega (arith, raised-below a 0 (omega arith)))
+one-by-one a (suc n) h = rw (turns-suc (λ (_ : ℕ) b. raised b 1) n a, one-by-one a n h, raised-again a n 1) (ap (raised a) (omega arith))
+
+-- ---- both counts
+
+-- each count is a 32-bit number
+abbrev pub Fits : Tally → Type 0
+Fits t = (t .taken ≤ 4294967295) × (t .refused ≤ 4294967295)
+
+-- a step taken raises the one count by one and leaves the other, below the largest value
+pub step-taken : (t : Tally) → t .taken < 4294967295 → t .refused ≤ 4294967295 → countedStep t 0 ≡ tallyOf (t .taken + 1) (t .refused)
+unfolding countedStep isTaken counted
+step-taken t h g = ap₂ tallyOf (raised-below (t .taken) 1 (omega arith)) (omega (arith, raised-below (t .refused) 0 (omega arith)))
+
+-- "Every refusal of a step counts, 6 too"
+pub step-refused : (t : Tally) (number : ℕ) → ¬ (number ≡ 0) → t .taken ≤ 4294967295 → t .refused < 4294967295 → countedStep t number ≡ tallyOf (t .taken) (t .refused + 1)
+unfolding countedStep isTaken counted
+step-refused t number n h g = rw (ne-eqb number 0 n) (ap₂ tallyOf (omega (arith, raised-below (t .taken) 0 (omega arith))) (raised-below (t .refused) 1 (omega arith)))
+
+pub counted-fits : (t : Tally) (n m : ℕ) → Fits (counted t n m)
+unfolding counted
+counted-fits t n m = (raised-most (t .taken) n, raised-most (t .refused) m)
+
+pub counted-none : (t : Tally) → Fits t → counted t 0 0 ≡ t
+unfolding counted
+counted-none t f = ap₂ tallyOf (raised-none (t .taken) (f .0)) (raised-none (t .refused) (f .1))
+  where
+    raised-none : (a : ℕ) → a ≤ 4294967295 → raised a 0 ≡ a
+    raised-none a h = omega (arith, raised-below a 0 (omega arith))
+
+pub counted-again : (t : Tally) (n m j k : ℕ) → counted (counted t n m) j k ≡ counted t (n + j) (m + k)
+unfolding counted
+counted-again t n m j k = ap₂ tallyOf (raised-again (t .taken) n j) (raised-again (t .refused) m k)
+
+step-is : (t : Tally) (r : ℕ) (b : Bool) → isTaken r ≡ b → countedStep t r ≡ cond b (counted t 1 0) (counted t 0 1)
+unfolding countedStep
+step-is t r b e = rw e refl
+
+step-fits : (t : Tally) (r : ℕ) → Fits (countedStep t r)
+step-fits t r = go (isTaken r) refl
+  where
+    go : (b : Bool) → isTaken r ≡ b → Fits (countedStep t r)
+    go true e = rw (step-is t r true e) (counted-fits t 1 0)
+    go false e = rw (step-is t r false e) (counted-fits t 0 1)
+
+-- the steps of a run at once: as one by one
+pub all-at-once : (t : Tally) (rs : List ℕ) → Fits t → countedSteps t rs ≡ counted t (takenIn rs) (refusedIn rs)
+unfolding countedSteps takenIn refusedIn
+all-at-once t [] f = sym (counted-none t f)
+all-at-once t (r ∷ rs) f = go (isTaken r) refl (all-at-once (countedStep t r) rs (step-fits t r))
+  where
+    go : (b : Bool) → isTaken r ≡ b → countedSteps (countedStep t r) rs ≡ counted (countedStep t r) (takenIn rs) (refusedIn rs)
+        → countedSteps (countedStep t r) rs ≡ counted t (length (keep b r (filter isTaken rs))) (length (keep (not b) r (filter (λ x. not (isTaken x)) rs)))
+    go true e h = h ∙ ap (λ s. counted s (takenIn rs) (refusedIn rs)) (step-is t r true e) ∙ counted-again t 1 0 (takenIn rs) (refusedIn rs) ∙ ap₂ (counted t) (omega arith) (omega arith)
+    go false e h = h ∙ ap (λ s. counted s (takenIn rs) (refusedIn rs)) (step-is t r false e) ∙ counted-again t 0 1 (takenIn rs) (refusedIn rs) ∙ ap₂ (counted t) (omega arith) (omega arith)

@@ -1,0 +1,40 @@
+-- "A tally of steps taken and steps refused is lent by its owner and brought up to date in place; each of the two 32-bit counts stays at
+-- its largest value once there. Every refusal of a step counts, 6 too."
+use Prim.Native.Nat.{ℕ, _+_}
+use mathlib.Core.Bool.{Bool, cond, not}
+use mathlib.Core.List.{List, [], _∷_}
+use lib.Dec.{eqb, ltb}
+use lib.ListN.{length}
+use Rattle.lists.specs.Filters.{filter}
+use Rattle.tally.specs.declared.Tally.{Tally}
+
+-- a count raised by n
+unfoldable pub raised : ℕ → ℕ → ℕ
+raised a n = cond (ltb 4294967295 (a + n)) 4294967295 (a + n)
+
+abbrev pub tallyOf : ℕ → ℕ → Tally
+tallyOf a b = record { taken = a; refused = b }
+
+-- so many more steps taken, so many more refused
+unfoldable pub counted : Tally → ℕ → ℕ → Tally
+counted t n m = record { taken = raised (t .taken) n; refused = raised (t .refused) m }
+
+-- a step's result: 0 is taken, every other number a refusal
+unfoldable pub isTaken : ℕ → Bool
+isTaken result = eqb result 0
+
+-- one step
+unfoldable pub countedStep : Tally → ℕ → Tally
+countedStep t result = cond (isTaken result) (counted t 1 0) (counted t 0 1)
+
+-- steps one by one
+unfoldable pub countedSteps : Tally → List ℕ → Tally
+countedSteps t [] = t
+countedSteps t (r ∷ rs) = countedSteps (countedStep t r) rs
+
+-- how many of some results are taken, and how many are refusals
+unfoldable pub takenIn : List ℕ → ℕ
+takenIn rs = length (filter isTaken rs)
+
+unfoldable pub refusedIn : List ℕ → ℕ
+refusedIn rs = length (filter (λ r. not (isTaken r)) rs)
