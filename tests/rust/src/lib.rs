@@ -2,8 +2,8 @@
 //! and what is needed to compare the proved store with it.
 //!
 //! `model` holds the rules, `named` the runs K1 to K13, `generate` makes files from a seed,
-//! `statistics` tells what they contain, `selfcheck` and `consistency` try the model itself,
-//! and `library` compares the store with it.
+//! `stored` has the files that are kept, `statistics` tells what files contain, `selfcheck` and
+//! `consistency` try the model itself, and `library` compares the store with it.
 
 pub mod consistency;
 pub mod generate;
@@ -14,3 +14,4 @@ pub mod named;
 pub mod random;
 pub mod selfcheck;
 pub mod statistics;
+pub mod stored;

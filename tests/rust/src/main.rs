@@ -9,9 +9,11 @@ use gondzselu_model::named;
 use gondzselu_model::random::Random;
 use gondzselu_model::selfcheck::{check, Checked};
 use gondzselu_model::statistics::Statistics;
+use gondzselu_model::stored;
 
 const USAGE: &str = "compare names                    K1 to K13: name, file and answer in hex
 compare generate SEED COUNT DIR  writes run files and the model's answers
+compare stored DIR               writes the runs that crates/runs keeps, with the model's answers
 compare statistics SEED COUNT    what generated files contain
 compare self SEED COUNT          checks the model against itself
 compare library SEED COUNT       compares the library (feature library)";
@@ -22,6 +24,7 @@ fn main() -> ExitCode {
     let result = match words[..] {
         ["names"] => names(),
         ["generate", seed, count, directory] => write(seed, count, Path::new(directory)),
+        ["stored", directory] => stored(Path::new(directory)),
         ["statistics", seed, count] => each(seed, count, |_, _| Ok(())),
         ["self", seed, count] => self_checks(seed, count),
         #[cfg(feature = "library")]
@@ -92,16 +95,27 @@ fn each(
     Ok(())
 }
 
-/// Writes each file as `N.run` and what the program is to write for it as `N.answer`.
+/// Writes a file as `NAME.run` and what the program is to write for it as `NAME.answer`.
+fn write_pair(directory: &Path, name: &str, file: &[u8]) -> Result<(), String> {
+    let put = |ending: &str, bytes: &[u8]| {
+        let path = directory.join(format!("{name}.{ending}"));
+        std::fs::write(path, bytes).map_err(|error| error.to_string())
+    };
+    put("run", file)?;
+    put("answer", &program_output(file))
+}
+
+fn stored(directory: &Path) -> Result<(), String> {
+    std::fs::create_dir_all(directory).map_err(|error| error.to_string())?;
+    let mut runs = stored::runs().into_iter();
+    runs.try_for_each(|run| write_pair(directory, run.name, &run.file))
+}
+
+/// Writes each file as `N.run` and its answer as `N.answer`.
 fn write(seed: &str, count: &str, directory: &Path) -> Result<(), String> {
     std::fs::create_dir_all(directory).map_err(|error| error.to_string())?;
     each(seed, count, |item, file| {
-        let put = |ending: &str, bytes: &[u8]| {
-            let path = directory.join(format!("{item:06}.{ending}"));
-            std::fs::write(path, bytes).map_err(|error| error.to_string())
-        };
-        put("run", file)?;
-        put("answer", &program_output(file))
+        write_pair(directory, &format!("{item:06}"), file)
     })
 }
 
