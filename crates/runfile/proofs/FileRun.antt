@@ -18,7 +18,7 @@ use Rattle.store.proofs.StartLaw.{start-stands}
 use Rattle.store.proofs.Demand3.{answers-same, store-demand-3}
 use Rattle.runfile.specs.RunFile.{stepsIn, placementIn, runFileIn, fileRefusal, joined}
 use Rattle.runfile.specs.AnswerFile.{fourBytes, answerBytes, answered}
-use Rattle.runfile.specs.Run.{answersIn, answerOf, answerRefusal, answerOutput, takenOf, refusedOf}
+use Rattle.runfile.specs.Run.{answersIn, isTaken, isRefused, answerOf, answerRefusal, answerOutput, takenOf, refusedOf}
 use Rattle.runfile.specs.FileRun.{FileRun}
 use Rattle.runfile.proofs.RunFileLaws.{accepted-placement, accepted-steps}
 use Rattle.runfile.proofs.AnswersFrom.{one-each, no-six}
@@ -53,7 +53,8 @@ module _ (file : List ℕ) (ok : fileRefusal file ≡ 0) where
   answer-length = ap length accepted-answer ∙ bytes-length (answersIn file) ∙ ap (λ n. 2 + 5 * n) answers-count
 
   all-counted : takenOf (answersIn file) + refusedOf (answersIn file) ≡ stepsIn file
-  all-counted = sym (filter-split (λ a. eqb (a .result) 0) (answersIn file)) ∙ answers-count
+  unfolding isTaken isRefused
+  all-counted = sym (filter-split (λ a. isTaken (a .result)) (answersIn file)) ∙ answers-count
 
   store-answers : (m : Store) → answersIn file ≡ answersOf (started (placementIn file) m) (runFileIn file .steps)
   unfolding answersIn

@@ -1,9 +1,8 @@
 -- A run step by step is the run over the list of its steps, and what it counts is what stands in its answers.
 use Prim.Native.Nat.{ℕ, zero, suc, _+_}
 use mathlib.Core.Path.{_≡_, sym, ap, ap₂, _∙_}
-use mathlib.Core.Bool.{not}
+use mathlib.Core.Bool.{cond}
 use mathlib.Core.List.{List, _∷_}
-use lib.Dec.{eqb}
 use Rattle.lists.specs.Loops.{turns-zero, turns-suc, turns-more, total}
 use Rattle.lists.specs.Listings.{listing, listing-zero, listing-cons, listing-cong}
 use Rattle.lists.specs.Counts.{filter-listing}
@@ -11,8 +10,8 @@ use Rattle.names.specs.Step.{RawStep}
 use Rattle.names.specs.declared.Answer.{Answer}
 use Rattle.store.specs.Step.{advanced}
 use Rattle.store.specs.Run.{Store, advance, answersAdvancing}
-use Rattle.runfile.specs.Run.{takenOf, refusedOf}
-use Rattle.runfile.specs.Stepwise.{storeAt, answerAt, takenOne, refusedOne}
+use Rattle.runfile.specs.Run.{isTaken, isRefused, takenOf, refusedOf}
+use Rattle.runfile.specs.Stepwise.{storeAt, answerAt}
 
 module _ (step : ℕ → RawStep) (m : Store) where
   pub store-zero : storeAt step m 0 ≡ m
@@ -56,10 +55,8 @@ answers-listed (suc n) step m =
     ∙ ap (answersAdvancing m) (sym (listing-cons step n))
 
 -- the counts
-pub taken-counted : (answer : ℕ → Answer) (n : ℕ) → total (λ j. takenOne (answer j .result)) n ≡ takenOf (listing answer n)
-unfolding takenOne
-taken-counted answer n = sym (filter-listing (λ a. eqb (a .result) 0) answer n)
+pub taken-counted : (answer : ℕ → Answer) (n : ℕ) → total (λ j. cond (isTaken (answer j .result)) 1 0) n ≡ takenOf (listing answer n)
+taken-counted answer n = sym (filter-listing (λ a. isTaken (a .result)) answer n)
 
-pub refused-counted : (answer : ℕ → Answer) (n : ℕ) → total (λ j. refusedOne (answer j .result)) n ≡ refusedOf (listing answer n)
-unfolding refusedOne
-refused-counted answer n = sym (filter-listing (λ a. not (eqb (a .result) 0)) answer n)
+pub refused-counted : (answer : ℕ → Answer) (n : ℕ) → total (λ j. cond (isRefused (answer j .result)) 1 0) n ≡ refusedOf (listing answer n)
+refused-counted answer n = sym (filter-listing (λ a. isRefused (a .result)) answer n)

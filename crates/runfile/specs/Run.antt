@@ -1,6 +1,6 @@
 -- A whole run: from the bytes of a run file to those of its answer file (01, "Run file and answer file").
 use Prim.Native.Nat.{ℕ, _+_, _*_}
-use mathlib.Core.Bool.{cond, not}
+use mathlib.Core.Bool.{Bool, cond, not}
 use mathlib.Core.List.{List, [], _∷_}
 use lib.Dec.{eqb, ltb}
 use lib.ListN.{length}
@@ -28,12 +28,20 @@ answerRefusal file out = cond (eqb (fileRefusal file) 0) (cond (ltb (length out)
 unfoldable pub answerOutput : List ℕ → List ℕ → List ℕ
 answerOutput file out = cond (eqb (answerRefusal file out) 0) (answered (answersIn file) out) out
 
--- "steps taken and steps refused": "result (a byte, 0 taken, else the refusal)"; "Every refusal of a step counts, 6 too."
+-- "result (a byte, 0 taken, else the refusal)"
+unfoldable pub isTaken : ℕ → Bool
+isTaken result = eqb result 0
+
+-- "Every refusal of a step counts, 6 too."
+unfoldable pub isRefused : ℕ → Bool
+isRefused result = not (eqb result 0)
+
+-- "steps taken and steps refused"
 abbrev pub takenOf : List Answer → ℕ
-takenOf answers = length (filter (λ a. eqb (a .result) 0) answers)
+takenOf answers = length (filter (λ a. isTaken (a .result)) answers)
 
 abbrev pub refusedOf : List Answer → ℕ
-refusedOf answers = length (filter (λ a. not (eqb (a .result) 0)) answers)
+refusedOf answers = length (filter (λ a. isRefused (a .result)) answers)
 
 -- what is said of a whole run: 0 and the counts of its steps, or the refusal and no steps
 unfoldable pub answeredOf : List ℕ → List ℕ → Answered

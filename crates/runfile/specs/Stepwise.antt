@@ -1,14 +1,14 @@
 -- A run step by step: the store after each step, and the step's answer, from any content of the two memories.
 use Prim.Native.Nat.{ℕ}
-use mathlib.Core.Bool.{cond, not}
+use mathlib.Core.Bool.{cond}
 use mathlib.Core.List.{List}
-use lib.Dec.{eqb}
 use Rattle.lists.specs.Loops.{turns, total}
 use Rattle.names.specs.Step.{RawStep}
 use Rattle.names.specs.declared.Answer.{Answer}
 use Rattle.store.specs.Step.{advanced}
 use Rattle.store.specs.Run.{Store, advance}
 use Rattle.runfile.specs.declared.Answered.{Answered}
+use Rattle.runfile.specs.Run.{isTaken, isRefused}
 
 abbrev pub stored : List ℕ → List ℕ → Store
 stored rs cs = record { registers = rs; channel = cs }
@@ -22,13 +22,10 @@ module _ (step : ℕ → RawStep) (m : Store) where
   unfoldable pub answerAt : ℕ → Answer
   answerAt k = advanced (storeAt k .registers) (storeAt k .channel) (step k .code) (step k .argument) .answer
 
--- 1 for a step that is taken, 1 for one that is refused
-unfoldable pub takenOne : ℕ → ℕ
-takenOne result = cond (eqb result 0) 1 0
-
-unfoldable pub refusedOne : ℕ → ℕ
-refusedOne result = cond (not (eqb result 0)) 1 0
-
 -- the counts of the first k answers
 abbrev pub counted : (ℕ → Answer) → ℕ → Answered
-counted answer k = record { refusal = 0; taken = total (λ j. takenOne (answer j .result)) k; refused = total (λ j. refusedOne (answer j .result)) k }
+counted answer k = record {
+  refusal = 0;
+  taken = total (λ j. cond (isTaken (answer j .result)) 1 0) k;
+  refused = total (λ j. cond (isRefused (answer j .result)) 1 0) k;
+}

@@ -1,12 +1,13 @@
 // A whole run: the file is judged, the store is started from its placement, and each step's answer is written as it comes.
 ghost use mathlib.Core.Path.{_≡_};
 ghost use Prim.Native.Nat.{_+_, _*_, _≤_, _<_};
+ghost use mathlib.Core.Bool.{cond};
 ghost use mathlib.Core.List.{_++_};
 ghost use lib.ListN.{length, drop};
 ghost use Rattle.runfile.specs.RunFile.{stepsIn, codesAt, argumentsAt, fileLength, placementIn, codeIn, argumentIn, stepIn, fileRefusal};
 ghost use Rattle.runfile.specs.AnswerFile.{headed, putAnswer, putAnswers};
-ghost use Rattle.runfile.specs.Stepwise.{stored, storeAt, answerAt, takenOne, refusedOne, counted};
-ghost use Rattle.runfile.specs.Run.{answerOf, answerOutput, answeredOf};
+ghost use Rattle.runfile.specs.Stepwise.{stored, answerAt, counted};
+ghost use Rattle.runfile.specs.Run.{isTaken, isRefused, answerOf, answerOutput, answeredOf};
 ghost use Rattle.store.specs.Start.{startRegisters, startChannel};
 ghost use Rattle.store.specs.Step.{advanced};
 use super::answer_file::put_answer;
@@ -66,24 +67,25 @@ fn argument_from(file: &[u8], arguments: usize, k: usize) -> [u8; 8]
     ]
 }
 
-// 1 for a step that is taken.
-fn taken_one(result: u8) -> u32
-    ensures { λ r. ⌜ (r ≡ takenOne result) × (r ≤ 1) ⌝ }
+fn is_taken(result: u8) -> bool
+    ensures { λ r. ⌜ r ≡ isTaken result ⌝ }
 {
-    if result == 0 {
+    result == 0
+}
+
+fn is_refused(result: u8) -> bool
+    ensures { λ r. ⌜ r ≡ isRefused result ⌝ }
+{
+    result != 0
+}
+
+fn one_if(b: bool) -> u32
+    ensures { λ r. ⌜ (r ≡ cond b 1 0) × (r ≤ 1) ⌝ }
+{
+    if b {
         return 1;
     }
     0
-}
-
-// 1 for a step that is refused, whatever its number.
-fn refused_one(result: u8) -> u32
-    ensures { λ r. ⌜ (r ≡ refusedOne result) × (r ≤ 1) ⌝ }
-{
-    if result == 0 {
-        return 0;
-    }
-    1
 }
 
 // Step k of n: its answer is written, and its result given.
@@ -131,8 +133,8 @@ fn go(
     let mut k: usize = 0;
     while k < n {
         let result = turn(file, out, registers, channel, codes, arguments, n, k);
-        taken += taken_one(result);
-        refused += refused_one(result);
+        taken += one_if(is_taken(result));
+        refused += one_if(is_refused(result));
         k += 1;
     }
     Answered {

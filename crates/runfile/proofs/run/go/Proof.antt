@@ -1,4 +1,5 @@
 use mathlib.Core.Path.{_≡_, refl, sym, ap, ap₂, _∙_}
+use mathlib.Core.Bool.{Bool, cond}
 use mathlib.Core.List.{List}
 use Prim.Native.Nat.{ℕ, _+_, _-_, _≤_}
 use native.Mathlib.Omega.{arith}
@@ -9,7 +10,8 @@ use Rattle.store.specs.Step.{advanced}
 use Rattle.store.specs.Run.{Store}
 use Rattle.runfile.specs.RunFile.{stepsIn, stepIn, codeIn, argumentIn}
 use Rattle.runfile.specs.AnswerFile.{headed, putAnswer, putAnswers}
-use Rattle.runfile.specs.Stepwise.{stored, storeAt, answerAt, takenOne, refusedOne}
+use Rattle.runfile.specs.Run.{isTaken, isRefused}
+use Rattle.runfile.specs.Stepwise.{stored, storeAt, answerAt}
 use Rattle.runfile.proofs.StepwiseLaws.{store-zero, store-more, answer-is}
 use borrow.Author.Needs.{needs}
 use Rattle.runfile.proofs.run.go.Statement.{statement}
@@ -22,8 +24,8 @@ Inv-loop file out₀ rs₀ cs₀ codes arguments n taken₀ refused₀ k₀ out 
     × (rs ≡ storeAt (stepIn file) (stored rs₀ cs₀) k .registers)
     × (cs ≡ storeAt (stepIn file) (stored rs₀ cs₀) k .channel)
     × (out ≡ putAnswers n (answerAt (stepIn file) (stored rs₀ cs₀)) k out₀)
-    × (taken ≡ total (λ j. takenOne (answerAt (stepIn file) (stored rs₀ cs₀) j .result)) k)
-    × (refused ≡ total (λ j. refusedOne (answerAt (stepIn file) (stored rs₀ cs₀) j .result)) k)
+    × (taken ≡ total (λ j. cond (isTaken (answerAt (stepIn file) (stored rs₀ cs₀) j .result)) 1 0) k)
+    × (refused ≡ total (λ j. cond (isRefused (answerAt (stepIn file) (stored rs₀ cs₀) j .result)) 1 0) k)
     × (taken ≤ k)
     × (refused ≤ k)
 
@@ -53,17 +55,23 @@ loop-holds c = let m = stored (c .before .before .before .before .before .before
 turn-requires : tie.Need-turn-requires Inv-loop μ-loop
 turn-requires c κs = (c .before .before .before .before .before .before .before .before .before .before .before .before .codes-at .ensures .0, c .before .before .before .before .before .before .before .before .before .before .before .arguments-at .ensures .0, c .before .before .before .before .before .before .before .before .before .wide .ensures .0 ∙ c .before .before .before .before .before .before .before .before .before .before .steps .ensures .0, omega arith, omega (arith, c .before .before .before .before .before .before .before .before .before .before .before .before .before .before .before .pre, c .before .before .before .before .before .before .before .before .before .wide .ensures .0, c .before .before .before .before .before .before .before .before .before .before .steps .ensures .0), c .before .before .before .before .before .before .before .before .before .before .before .before .before .before .before .pre .1, omega (arith, c .before .before .before .before .before .before .before .before .before .before .before .before .before .before .before .pre, c .before .before .before .before .before .before .before .before .before .wide .ensures .0, c .before .before .before .before .before .before .before .before .before .before .steps .ensures .0, c .before .before .before .before .loop .inv .1, c .before .before .before .before .before .before .before .put-count .kept .0))
 
-taken-one-requires : tie.Need-taken-one-requires Inv-loop μ-loop
-taken-one-requires c κs = search needs
+is-taken-requires : tie.Need-is-taken-requires Inv-loop μ-loop
+is-taken-requires c κs = search needs
+
+one-if-requires : tie.Need-one-if-requires Inv-loop μ-loop
+one-if-requires c κs = search needs
 
 add-taken : tie.Need-add-taken Inv-loop μ-loop
-add-taken c = omega (arith, c .before .before .before .before .before .before .before .before .before .before .before .before .before .before .before .before .before .before .before .pre, c .before .before .before .before .before .before .before .before .before .before .before .before .before .wide .ensures .0, c .before .before .before .before .before .before .before .before .before .before .before .before .before .before .steps .ensures .0, c .before .before .before .before .before .before .before .before .loop .inv .0, c .before .before .before .before .before .before .before .before .loop .inv .7, c .taken-one .ensures .1)
+add-taken c = omega (arith, c .before .before .before .before .before .before .before .before .before .before .before .before .before .before .before .before .before .before .before .before .pre, c .before .before .before .before .before .before .before .before .before .before .before .before .before .before .wide .ensures .0, c .before .before .before .before .before .before .before .before .before .before .before .before .before .before .before .steps .ensures .0, c .before .before .before .before .before .before .before .before .before .loop .inv .0, c .before .before .before .before .before .before .before .before .before .loop .inv .7, c .one-if .ensures .1)
 
-refused-one-requires : tie.Need-refused-one-requires Inv-loop μ-loop
-refused-one-requires c κs = search needs
+is-refused-requires : tie.Need-is-refused-requires Inv-loop μ-loop
+is-refused-requires c κs = search needs
+
+one-if-requires-2 : tie.Need-one-if-requires-2 Inv-loop μ-loop
+one-if-requires-2 c κs = search needs
 
 add-refused : tie.Need-add-refused Inv-loop μ-loop
-add-refused c = omega (arith, c .before .before .before .before .before .before .before .before .before .before .before .before .before .before .before .before .before .before .before .before .pre, c .before .before .before .before .before .before .before .before .before .before .before .before .before .before .wide .ensures .0, c .before .before .before .before .before .before .before .before .before .before .before .before .before .before .before .steps .ensures .0, c .before .before .before .before .before .before .before .before .before .loop .inv .0, c .before .before .before .before .before .before .before .before .before .loop .inv .8, c .refused-one .ensures .1)
+add-refused c = omega (arith, c .before .before .before .before .before .before .before .before .before .before .before .before .before .before .before .before .before .before .before .before .before .before .pre, c .before .before .before .before .before .before .before .before .before .before .before .before .before .before .before .before .wide .ensures .0, c .before .before .before .before .before .before .before .before .before .before .before .before .before .before .before .before .before .steps .ensures .0, c .before .before .before .before .before .before .before .before .before .before .before .loop .inv .0, c .before .before .before .before .before .before .before .before .before .before .before .loop .inv .8, c .one-if2 .ensures .1)
 
 add-k : tie.Need-add-k Inv-loop μ-loop
 add-k c = search needs
@@ -73,18 +81,19 @@ loop-less c = search needs
 
 loop-again : tie.Need-loop-again Inv-loop μ-loop
 unfolding putAnswers
-loop-again c = let s = c .before .before .before .before .before .before .before .before .before .before .before .before .before .before .before .before .before .before .before .before .args .file .now in let m = stored (c .before .before .before .before .before .before .before .before .before .before .before .before .before .before .before .before .before .before .before .before .args .registers .now) (c .before .before .before .before .before .before .before .before .before .before .before .before .before .before .before .before .before .before .before .before .args .channel .now) in let l = c .before .before .before .before .before .before .before .before .before .loop in let k = c .before .before .before .before .before .before .before .before .before .loop .k in
+loop-again c = let s = c .before .before .before .before .before .before .before .before .before .before .before .before .before .before .before .before .before .before .before .before .before .before .args .file .now in let m = stored (c .before .before .before .before .before .before .before .before .before .before .before .before .before .before .before .before .before .before .before .before .before .before .args .registers .now) (c .before .before .before .before .before .before .before .before .before .before .before .before .before .before .before .before .before .before .before .before .before .before .args .channel .now) in let l = c .before .before .before .before .before .before .before .before .before .before .before .loop in let k = c .before .before .before .before .before .before .before .before .before .before .before .loop .k in
     let more = store-more (stepIn s) m k in
-    let a = answer-is (stepIn s) m k (l .registers) (l .channel) (l .inv .2) (l .inv .3) in (
+    let a = answer-is (stepIn s) m k (l .registers) (l .channel) (l .inv .2) (l .inv .3) in
+    let result = c .before .before .before .before .before .before .turn .ensures .1 .1 .1 ∙ ap (λ (x : Answer). x .result) a in (
       omega arith,
-      c .before .before .before .before .turn .kept .1 .0 ∙ l .inv .1,
-      c .before .before .before .before .turn .ensures .0 ∙ ap₂ (λ x y. advanced x y (codeIn s k) (argumentIn s k) .registers) (l .inv .2) (l .inv .3) ∙ ap (λ (q : Store). q .registers) (sym more),
-      c .before .before .before .before .turn .ensures .1 .0 ∙ ap₂ (λ x y. advanced x y (codeIn s k) (argumentIn s k) .channel) (l .inv .2) (l .inv .3) ∙ ap (λ (q : Store). q .channel) (sym more),
-      c .before .before .before .before .turn .ensures .1 .1 .0 ∙ ap₂ (λ (x : Answer) (y : List ℕ). putAnswer (c .before .before .before .before .before .before .before .before .before .before .before .before .before .before .wide .result) k x y) a (l .inv .4) ∙ sym (turns-more _ k _),
-      ap₂ _+_ (l .inv .5) (c .before .taken-one .ensures .0 ∙ ap takenOne (c .before .before .before .before .turn .ensures .1 .1 .1 ∙ ap (λ (x : Answer). x .result) a)) ∙ sym (total-more _ k),
-      ap₂ _+_ (l .inv .6) (c .refused-one .ensures .0 ∙ ap refusedOne (c .before .before .before .before .turn .ensures .1 .1 .1 ∙ ap (λ (x : Answer). x .result) a)) ∙ sym (total-more _ k),
-      omega (arith, l .inv .7, c .before .taken-one .ensures .1),
-      omega (arith, l .inv .8, c .refused-one .ensures .1),
+      c .before .before .before .before .before .before .turn .kept .1 .0 ∙ l .inv .1,
+      c .before .before .before .before .before .before .turn .ensures .0 ∙ ap₂ (λ x y. advanced x y (codeIn s k) (argumentIn s k) .registers) (l .inv .2) (l .inv .3) ∙ ap (λ (q : Store). q .registers) (sym more),
+      c .before .before .before .before .before .before .turn .ensures .1 .0 ∙ ap₂ (λ x y. advanced x y (codeIn s k) (argumentIn s k) .channel) (l .inv .2) (l .inv .3) ∙ ap (λ (q : Store). q .channel) (sym more),
+      c .before .before .before .before .before .before .turn .ensures .1 .1 .0 ∙ ap₂ (λ (x : Answer) (y : List ℕ). putAnswer (c .before .before .before .before .before .before .before .before .before .before .before .before .before .before .before .before .wide .result) k x y) a (l .inv .4) ∙ sym (turns-more _ k _),
+      ap₂ _+_ (l .inv .5) (c .before .before .one-if .ensures .0 ∙ ap (λ (b : Bool). cond b 1 0) (c .before .before .before .is-taken .ensures ∙ ap isTaken result)) ∙ sym (total-more _ k),
+      ap₂ _+_ (l .inv .6) (c .one-if2 .ensures .0 ∙ ap (λ (b : Bool). cond b 1 0) (c .before .is-refused .ensures ∙ ap isRefused result)) ∙ sym (total-more _ k),
+      omega (arith, l .inv .7, c .before .before .one-if .ensures .1),
+      omega (arith, l .inv .8, c .one-if2 .ensures .1),
     )
 
 same-length : tie.Need-same-length Inv-loop μ-loop
@@ -99,4 +108,4 @@ returns c = let s = c .before .before .before .before .before .before .before .b
     )
 
 pub go-spec : {M : Type 1} → statement M
-go-spec = tie.close (tie.spec Inv-loop μ-loop codes-at-requires arguments-at-requires steps-requires wide-requires put-count-requires loop-holds turn-requires taken-one-requires add-taken refused-one-requires add-refused add-k loop-less loop-again same-length returns)
+go-spec = tie.close (tie.spec Inv-loop μ-loop codes-at-requires arguments-at-requires steps-requires wide-requires put-count-requires loop-holds turn-requires is-taken-requires one-if-requires add-taken is-refused-requires one-if-requires-2 add-refused add-k loop-less loop-again same-length returns)

@@ -1,0 +1,11 @@
+use Rattle.runfile.specs.Run.{isRefused}
+use borrow.Author.Needs.{needs}
+use Rattle.runfile.proofs.run.is_refused.Statement.{statement}
+use Rattle.runfile.proofs.run.is_refused.Tie as tie
+
+returns : tie.Need-returns
+unfolding isRefused
+returns c = search needs
+
+pub is-refused-spec : {M : Type 1} → statement M
+is-refused-spec = tie.close (tie.spec returns)
