@@ -25,3 +25,5 @@ pub mod NeverSix
 pub mod CheckedOnce
 -- Refusal 6 for the state, kind by kind
 pub mod IllStates
+-- Limits met exactly
+pub mod LimitRuns

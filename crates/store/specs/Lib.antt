@@ -22,3 +22,5 @@ pub mod Demand3
 pub mod Starts
 -- Refusal 6 for the state, kind by kind
 pub mod IllStates
+-- Limits met exactly
+pub mod LimitRuns
