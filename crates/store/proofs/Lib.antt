@@ -27,3 +27,4 @@ pub mod CheckedOnce
 pub mod IllStates
 -- Limits met exactly
 pub mod LimitRuns
+pub mod LimitSteps

@@ -53,6 +53,4 @@ limits-met = record {
   inbox = inbox-met;
   behind = λ m. stored m k11 ∙ k11-results;
   crowded = λ m. stored m k12 ∙ k12-results;
-  last-request = λ P s c x q n. (rw (q, n), rw n);
-  next-request = λ P s c x q n. rw (q, n);
 }

@@ -24,3 +24,4 @@ pub mod Starts
 pub mod IllStates
 -- Limits met exactly
 pub mod LimitRuns
+pub mod LimitSteps

@@ -1,14 +1,14 @@
 -- Limits met exactly (01, "The ten steps": "Of any card, an outbox has at most 16 messages, an inbox 48, and at most 16 messages are held";
--- "Named runs": K11 to K13): a run from a start reaches each, or its last step is the first refused. That none is passed says NeverSix.
-use Prim.Native.Nat.{ℕ, zero, suc, _+_, _%_}
+-- "Named runs": K11, K12): a run from a start reaches each, or its last step is the first refused. That none is passed says NeverSix; K13 is
+-- LimitSteps.request.
+use Prim.Native.Nat.{ℕ, zero, suc, _%_}
 use mathlib.Core.Path.{_≡_}
 use mathlib.Core.List.{List, [], _∷_, _++_, map}
 use lib.ListN.{length, replicate}
 use Rattle.names.specs.Placement.{Placement}
-use Rattle.claims.specs.Command.{request-read, request-update}
 use Rattle.claims.specs.Steps.{RawStep}
 use Rattle.claims.specs.NamedRuns.{step, set}
-use Rattle.claims.specs.Published.{Published, quiet, begin, effect, commandRefusal}
+use Rattle.claims.specs.Published.{begin}
 use Rattle.claims.specs.PublishedRun.{finalFrom}
 use Rattle.store.specs.Demand2.{Stands}
 use Rattle.store.specs.Run.{Store, started, storeAfter, answersOf}
@@ -87,8 +87,3 @@ pub record LimitsMet : Type 0 where
   pub inbox : length (finalFrom crowd begin inbox-run .channel .inbox 1) ≡ 48
   pub behind : (m : Store) → resultsOf m k11 ≡ thenRefused 386 34
   pub crowded : (m : Store) → resultsOf m k12 ≡ thenRefused 230 35
-  -- "K13 request 65,535 passes, the next gives 23": of any placement and published state
-  pub last-request : (P : Placement) (s : Published) (c x : ℕ) → s .status c ≡ quiet → s .requests ≡ 65534
-      → (commandRefusal P s (request-read c x) ≡ 0) × (effect P s (request-read c x) .requests ≡ 65535)
-  pub next-request : (P : Placement) (s : Published) (c x : ℕ) → s .status c ≡ quiet → s .requests ≡ 65535
-      → commandRefusal P s (request-read c x) ≡ 23
