@@ -23,3 +23,8 @@ pub mod Demand2
 pub mod Demand3
 pub mod NeverSix
 pub mod CheckedOnce
+-- Refusal 6 for the state, kind by kind
+pub mod IllStates
+-- Limits met exactly
+pub mod LimitRuns
+pub mod LimitSteps

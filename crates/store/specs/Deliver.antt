@@ -7,6 +7,7 @@ use lib.Dec.{eqb}
 use Rattle.names.specs.declared.Card.{Card}
 use Rattle.names.specs.declared.Body.{Body}
 use Rattle.names.specs.declared.Body.the-variants.{ReadDo, UpdateDo, ReadReply, UpdateReply}
+use Rattle.names.specs.declared.Message.{Message}
 use Rattle.channel.specs.declared.Received.{Received}
 use Rattle.channel.specs.declared.Received.the-variants.{Got, NoSuchCard, Empty}
 use Rattle.channel.specs.Inbox.{receiveAnswer, receiveMemory}
@@ -23,9 +24,13 @@ use Rattle.store.specs.Perform.{copyUpdated}
 unfoldable pub replied : List ℕ → ℕ → ℕ → ℕ → Body → List ℕ
 replied ws i t x b = posted ws i (letterFor i t x b (onlyCard (homeOf ws t)))
 
+-- "this card is primary"
+abbrev pub isPrimary : ℕ → ℕ → Bool
+isPrimary i p = eqb i p
+
 -- an update's reply is due here: "its home holds no copy and this card is primary"
 unfoldable pub repliesHere : List ℕ → ℕ → ℕ → ℕ → Bool
-repliesHere ws i t x = eqb i (primaryOf ws x) && not (holds ws x (homeOf ws t))
+repliesHere ws i t x = isPrimary i (primaryOf ws x) && not (holds ws x (homeOf ws t))
 
 -- "applied; if the task's home is here it is done"
 unfoldable pub applied : List ℕ → ℕ → ℕ → ℕ → ℕ → ℕ → List ℕ
@@ -48,14 +53,21 @@ bodyWords ws i t x (UpdateDo f w) =
 bodyWords ws i t x (ReadReply v) = doingStored ws t (DoneRead v)
 bodyWords ws i t x UpdateReply = doingStored ws t DoneUpdate
 
+-- a message takes effect
+abbrev pub messageNumber : List ℕ → ℕ → Message → ℕ
+messageNumber ws i m = bodyNumber ws i (m .task .0) (m .register .0) (m .body)
+
+abbrev pub messageWords : List ℕ → ℕ → Message → List ℕ
+messageWords ws i m = bodyWords ws i (m .task .0) (m .register .0) (m .body)
+
 -- 33 "inbox empty"; 14 an absent card
 unfoldable pub foundNumber : List ℕ → ℕ → Received → ℕ
-foundNumber ws i (Got m) = bodyNumber ws i (m .task .0) (m .register .0) (m .body)
+foundNumber ws i (Got m) = messageNumber ws i m
 foundNumber ws i NoSuchCard = 14
 foundNumber ws i Empty = 33
 
 unfoldable pub foundWords : List ℕ → ℕ → Received → List ℕ
-foundWords ws i (Got m) = bodyWords ws i (m .task .0) (m .register .0) (m .body)
+foundWords ws i (Got m) = messageWords ws i m
 foundWords ws i NoSuchCard = ws
 foundWords ws i Empty = ws
 

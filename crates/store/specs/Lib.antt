@@ -20,3 +20,8 @@ pub mod Demand2
 pub mod Run
 pub mod Demand3
 pub mod Starts
+-- Refusal 6 for the state, kind by kind
+pub mod IllStates
+-- Limits met exactly
+pub mod LimitRuns
+pub mod LimitSteps

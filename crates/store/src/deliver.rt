@@ -1,9 +1,8 @@
 // Step 9: the head of a card's inbox is delivered.
 ghost use mathlib.Core.Path.{_≡_};
 ghost use Rattle.names.specs.declared.Body.the-variants.{ReadDo, UpdateDo};
-ghost use Rattle.channel.specs.declared.Received.the-variants.{Got};
 ghost use Rattle.store.specs.Doings.{doingStored};
-ghost use Rattle.store.specs.Deliver.{replied, repliesHere, applied, bodyNumber, bodyWords, foundNumber, foundWords, deliverNumber, deliverRegisters, deliverChannel};
+ghost use Rattle.store.specs.Deliver.{replied, isPrimary, repliesHere, applied, bodyNumber, bodyWords, messageNumber, messageWords, foundNumber, foundWords, deliverNumber, deliverRegisters, deliverChannel};
 use super::doings::store;
 use super::layout::copy;
 use super::layout::holds;
@@ -31,11 +30,18 @@ fn reply(registers: &mut [u32; 1544], card: Card, task: Task, register: Register
     post(registers, card, letter);
 }
 
+// Whether a card is the primary.
+fn is_primary(card: Card, primary: Card) -> bool
+    ensures { λ r. ⌜ r ≡ isPrimary (card .0) (primary .0) ⌝ }
+{
+    card.0 == primary.0
+}
+
 // Whether a card owes the reply to an update.
 fn replies(registers: &[u32; 1544], card: Card, task: Task, register: Register) -> bool
     ensures { λ r. ⌜ r ≡ repliesHere (now (registers .entry)) (card .0) (task .0) (register .0) ⌝ }
 {
-    if card.0 != primary(registers, register).0 {
+    if !is_primary(card, primary(registers, register)) {
         return false;
     }
     !holds(registers, register, home(registers, task))
@@ -127,8 +133,8 @@ fn deliver_body(
 
 // A message takes effect on a card.
 fn deliver_message(registers: &mut [u32; 1544], card: Card, message: Message) -> u8
-    ensures registers { λ _. ⌜ now (registers .exit) ≡ foundWords (now (registers .entry)) (card .0) (Got message) ⌝ }
-    ensures number { λ r. ⌜ r ≡ foundNumber (now (registers .entry)) (card .0) (Got message) ⌝ }
+    ensures registers { λ _. ⌜ now (registers .exit) ≡ messageWords (now (registers .entry)) (card .0) message ⌝ }
+    ensures number { λ r. ⌜ r ≡ messageNumber (now (registers .entry)) (card .0) message ⌝ }
 {
     let body = message.body;
     deliver_body(registers, card, message.task, message.register, body)

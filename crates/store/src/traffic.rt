@@ -1,11 +1,12 @@
 // Steps 6, 7 and 8, which are the channel's but for the outbox.
 ghost use mathlib.Core.Path.{_≡_};
 ghost use Rattle.channel.specs.Answers.{answerNumber};
-ghost use Rattle.store.specs.Traffic.{dispatchNumber, dispatchRegisters, dispatchChannel};
+ghost use Rattle.store.specs.Traffic.{handedAnswer, handedMemory, dispatchNumber, dispatchRegisters, dispatchChannel};
 use super::outbox::count;
 use super::outbox::first;
 use super::outbox::unpost;
 use names::Card;
+use names::Letter;
 
 // Document 01's number of the channel's answer.
 pub(crate) fn number_of(answer: channel::Answer) -> u8
@@ -24,6 +25,15 @@ pub(crate) fn number_of(answer: channel::Answer) -> u8
     }
 }
 
+// A card's letter is handed to the channel.
+fn hand_over(channel: &mut [u32; 4808], card: Card, letter: Letter) -> channel::Answer
+    ensures channel { λ _. ⌜ now (channel .exit) ≡ handedMemory (now (channel .entry)) card letter ⌝ }
+    ensures answer { λ r. ⌜ r ≡ handedAnswer (now (channel .entry)) card letter ⌝ }
+{
+    let message = letter.message;
+    channel::dispatch(channel, card, message, letter.to)
+}
+
 // Step 6: the head of a card's outbox goes to the channel.
 pub(crate) fn dispatch(registers: &mut [u32; 1544], channel: &mut [u32; 4808], card: Card) -> u8
     ensures registers { λ _. ⌜ now (registers .exit) ≡ dispatchRegisters (now (registers .entry)) (now (channel .entry)) card ⌝ }
@@ -34,8 +44,7 @@ pub(crate) fn dispatch(registers: &mut [u32; 1544], channel: &mut [u32; 4808], c
         return 30;
     }
     let letter = first(registers, card);
-    let message = letter.message;
-    let number = number_of(channel::dispatch(channel, card, message, letter.to));
+    let number = number_of(hand_over(channel, card, letter));
     if number == 0 {
         unpost(registers, card);
         return number;

@@ -1,16 +1,35 @@
+use Prim.Native.Nat.{ℕ}
+use mathlib.Core.Path.{_≡_, sym, ap, _∙_}
+use mathlib.Core.Logic.{_≢_}
+use mathlib.Core.Bool.{false}
+use mathlib.Core.List.{List}
 use borrow.Author.Tests.{eq-eqb, ne-eqb}
-use mathlib.Core.Path.{_≡_, sym, _∙_}
-use Rattle.lists.specs.Tests.{cases}
-use Rattle.store.specs.Traffic.{dispatchChannel, dispatchNumber, dispatchRegisters}
 use borrow.Author.Needs.{needs}
+use lib.Dec.{eqb}
+use Rattle.names.specs.declared.Card.{Card}
+use Rattle.channel.specs.Answers.{answerNumber}
+use Rattle.store.specs.Outbox.{outCountOf, firstOut, unposted}
+use Rattle.store.specs.Traffic.{handedAnswer, handedMemory, dispatchNumber, dispatchRegisters, dispatchChannel}
 use Rattle.store.proofs.traffic.dispatch.Statement.{statement}
 use Rattle.store.proofs.traffic.dispatch.Tie as tie
-use Rattle.store.proofs.traffic.dispatch.Reads as reads
-use Rattle.store.proofs.traffic.dispatch.Lts as lts
-use Rattle.store.proofs.outbox.count.Reads as count-reads
-use Rattle.store.proofs.outbox.first.Reads as first-reads
-use Rattle.store.proofs.outbox.unpost.Reads as unpost-reads
-use Rattle.store.proofs.traffic.number_of.Reads as number-of-reads
+
+-- the parts of step 6, whatever the channel does with the letter
+module _ (rs cs : List ℕ) (card : Card) where
+  number-is : eqb (outCountOf rs (card .0)) 0 ≡ false → dispatchNumber rs cs card ≡ answerNumber (handedAnswer cs card (firstOut rs (card .0)))
+  unfolding dispatchNumber
+  number-is z = rw z
+
+  channel-is : eqb (outCountOf rs (card .0)) 0 ≡ false → dispatchChannel rs cs card ≡ handedMemory cs card (firstOut rs (card .0))
+  unfolding dispatchChannel
+  channel-is z = rw z
+
+  head-gone : dispatchNumber rs cs card ≡ 0 → dispatchRegisters rs cs card ≡ unposted rs (card .0)
+  unfolding dispatchRegisters
+  head-gone e = rw e
+
+  head-stays : dispatchNumber rs cs card ≢ 0 → dispatchRegisters rs cs card ≡ rs
+  unfolding dispatchRegisters
+  head-stays e = rw (ne-eqb _ _ e)
 
 count-requires : tie.Need-count-requires
 count-requires c κs = search needs
@@ -22,8 +41,8 @@ returns c = let z = eq-eqb _ _ (sym (c .before .count .ensures) ∙ c .if1 .take
 first-requires : tie.Need-first-requires
 first-requires c κs = search needs
 
-dispatch-requires : tie.Need-dispatch-requires
-dispatch-requires c κs = search needs
+hand-over-requires : tie.Need-hand-over-requires
+hand-over-requires c κs = search needs
 
 number-of-requires : tie.Need-number-of-requires
 number-of-requires c κs = search needs
@@ -32,12 +51,26 @@ unpost-requires : tie.Need-unpost-requires
 unpost-requires c κs = search needs
 
 returns-2 : tie.Need-returns-2
-unfolding dispatchChannel dispatchNumber dispatchRegisters
-returns-2 c = let z = ne-eqb _ _ (rw (c .before .before .before .before .before .before .before .before .before .before .count .ensures) at (c .before .before .before .before .before .before .before .before .before .if1 .left)) in let y = eq-eqb _ _ (rw (c .before .before .before .before .dispatch .ensures .1, c .before .before .before .before .before .before .before .first .ensures) at (sym (c .before .before .before .number-of .ensures) ∙ c .before .before .if2 .taken)) in (simp (z, y, c .unpost .ensures), (simp (z, c .before .before .before .before .dispatch .ensures .0, c .before .before .before .before .before .before .before .first .ensures), simp (z, c .before .before .before .number-of .ensures, c .before .before .before .before .dispatch .ensures .1, c .before .before .before .before .before .before .before .first .ensures)))
+returns-2 c =
+    let rs = c .before .before .before .before .before .before .before .before .before .before .before .args .registers .now in
+    let cs = c .before .before .before .before .before .before .before .before .before .before .before .args .channel .now in
+    let card = c .before .before .before .before .before .before .before .before .before .before .before .args .card in
+    let z : eqb (outCountOf rs (card .0)) 0 ≡ false = ne-eqb _ _ (rw (c .before .before .before .before .before .before .before .before .before .count .ensures) at (c .before .before .before .before .before .before .before .before .if1 .left)) in
+    let n : c .before .before .before .number-of .result ≡ dispatchNumber rs cs card =
+    c .before .before .before .number-of .ensures ∙ ap answerNumber (c .before .before .before .before .hand-over .ensures .1 ∙ ap (λ l. handedAnswer cs card l) (c .before .before .before .before .before .before .first .ensures)) ∙ sym (number-is rs cs card z) in
+    let m = c .before .before .before .before .hand-over .ensures .0 ∙ ap (λ l. handedMemory cs card l) (c .before .before .before .before .before .before .first .ensures) ∙ sym (channel-is rs cs card z) in
+    (c .unpost .ensures ∙ sym (head-gone rs cs card (sym n ∙ c .before .before .if2 .taken)), (m, n))
 
 returns-3 : tie.Need-returns-3
-unfolding dispatchChannel dispatchNumber dispatchRegisters
-returns-3 c = let z = ne-eqb _ _ (rw (c .before .before .before .before .before .before .before .before .count .ensures) at (c .before .before .before .before .before .before .before .if1 .left)) in let y = ne-eqb _ _ (rw (c .before .number-of .ensures, c .before .before .dispatch .ensures .1, c .before .before .before .before .before .first .ensures) at (c .if2 .left)) in (simp (z, y), (simp (z, c .before .before .dispatch .ensures .0, c .before .before .before .before .before .first .ensures), simp (z, c .before .number-of .ensures, c .before .before .dispatch .ensures .1, c .before .before .before .before .before .first .ensures)))
+returns-3 c =
+    let rs = c .before .before .before .before .before .before .before .before .before .args .registers .now in
+    let cs = c .before .before .before .before .before .before .before .before .before .args .channel .now in
+    let card = c .before .before .before .before .before .before .before .before .before .args .card in
+    let z : eqb (outCountOf rs (card .0)) 0 ≡ false = ne-eqb _ _ (rw (c .before .before .before .before .before .before .before .count .ensures) at (c .before .before .before .before .before .before .if1 .left)) in
+    let n : c .before .number-of .result ≡ dispatchNumber rs cs card =
+    c .before .number-of .ensures ∙ ap answerNumber (c .before .before .hand-over .ensures .1 ∙ ap (λ l. handedAnswer cs card l) (c .before .before .before .before .first .ensures)) ∙ sym (number-is rs cs card z) in
+    let m = c .before .before .hand-over .ensures .0 ∙ ap (λ l. handedMemory cs card l) (c .before .before .before .before .first .ensures) ∙ sym (channel-is rs cs card z) in
+    (sym (head-stays rs cs card (λ e. c .if2 .left (n ∙ e))), (m, n))
 
 pub dispatch-spec : {M : Type 1} → statement M
 dispatch-spec =
@@ -46,7 +79,7 @@ dispatch-spec =
     count-requires
     returns
     first-requires
-    dispatch-requires
+    hand-over-requires
     number-of-requires
     unpost-requires
     returns-2

@@ -1,0 +1,89 @@
+-- Limits met exactly (01, "The ten steps": "Of any card, an outbox has at most 16 messages, an inbox 48, and at most 16 messages are held";
+-- "Named runs": K11, K12): a run from a start reaches each, or its last step is the first refused. That none is passed says NeverSix; K13 is
+-- LimitSteps.request.
+use Prim.Native.Nat.{ℕ, zero, suc, _%_}
+use mathlib.Core.Path.{_≡_}
+use mathlib.Core.List.{List, [], _∷_, _++_, map}
+use lib.ListN.{length, replicate}
+use Rattle.names.specs.Placement.{Placement}
+use Rattle.claims.specs.Steps.{RawStep}
+use Rattle.claims.specs.NamedRuns.{step, set}
+use Rattle.claims.specs.Published.{begin}
+use Rattle.claims.specs.PublishedRun.{finalFrom}
+use Rattle.store.specs.Demand2.{Stands}
+use Rattle.store.specs.Run.{Store, started, storeAfter, answersOf}
+
+-- two cards; 16 tasks on card 0; register 0 on both cards, register 1 on card 1
+abbrev pub crowd : Placement
+crowd = record {
+  cards = 2;
+  homes = 0 ∷ 0 ∷ 0 ∷ 0 ∷ 0 ∷ 0 ∷ 0 ∷ 0 ∷ 0 ∷ 0 ∷ 0 ∷ 0 ∷ 0 ∷ 0 ∷ 0 ∷ 0 ∷ [];
+  copies = 3 ∷ 2 ∷ [];
+  primaries = 0 ∷ 1 ∷ [];
+}
+
+-- steps for each of 0 .. n - 1
+abbrev pub each-of : ℕ → (ℕ → List RawStep) → List RawStep
+each-of zero f = []
+each-of (suc n) f = each-of n f ++ f n
+
+-- task t asks for register 1 and sends the read to card 1
+abbrev pub reads : ℕ → List RawStep
+reads t = step 1 (t ∷ 1 ∷ []) ∷ step 4 (t ∷ 1 ∷ []) ∷ []
+
+-- card 0 dispatches it, and it reaches card 1
+abbrev pub arrives : ℕ → List RawStep
+arrives t = step 6 (0 ∷ []) ∷ step 8 (t ∷ []) ∷ []
+
+-- task t (the remainder) sets register 0, which card 0 broadcasts
+abbrev pub shares : ℕ → List RawStep
+shares t = set (t % 16) 0 1 ∷ step 5 (t % 16 ∷ []) ∷ step 6 (0 ∷ []) ∷ []
+
+-- card 0 takes and delivers it, and the task reports
+abbrev pub settles : ℕ → List RawStep
+settles t = step 7 (0 ∷ []) ∷ step 9 (0 ∷ []) ∷ step 10 (t % 16 ∷ []) ∷ []
+
+-- n broadcasts, each settled on card 0
+abbrev pub broadcasts : ℕ → List RawStep
+broadcasts n = each-of n (λ t. shares t ++ settles t)
+
+-- card 1 takes n broadcasts
+abbrev pub takes : ℕ → List RawStep
+takes n = each-of n (λ k. step 7 (1 ∷ []) ∷ [])
+
+abbrev pub outbox-run : List RawStep
+outbox-run = each-of 16 reads
+
+-- the reads are tagged 1, and card 1 has taken nothing
+abbrev pub held-run : List RawStep
+held-run = broadcasts 1 ++ each-of 16 (λ t. reads t ++ arrives t)
+
+-- 32 broadcasts and 16 single messages
+abbrev pub inbox-run : List RawStep
+inbox-run = broadcasts 32 ++ takes 32 ++ each-of 16 (λ t. reads t ++ arrives t)
+
+-- "K11 a card takes nothing: broadcast 64 passes, 65 gives 34."
+abbrev pub k11 : List RawStep
+k11 = broadcasts 64 ++ shares 64
+
+-- "K12 take 32 passes, 33 gives 35."
+abbrev pub k12 : List RawStep
+k12 = broadcasts 33 ++ takes 33
+
+-- the results of a run of the store, in memories of any content
+abbrev pub resultsOf : Store → List RawStep → List ℕ
+resultsOf m l = map (λ a. a .result) (answersOf (started crowd m) l)
+
+-- all taken but the last
+abbrev pub thenRefused : ℕ → ℕ → List ℕ
+thenRefused n r = replicate n 0 ++ (r ∷ [])
+
+pub record LimitsMet : Type 0 where
+  -- what the store shows after a run is the published state
+  pub shows : (m : Store) (l : List RawStep)
+      → Stands (storeAfter (started crowd m) l .registers) (storeAfter (started crowd m) l .channel) crowd (finalFrom crowd begin l)
+  pub outbox : length (finalFrom crowd begin outbox-run .out 0) ≡ 16
+  pub held : length (finalFrom crowd begin held-run .channel .held 1) ≡ 16
+  pub inbox : length (finalFrom crowd begin inbox-run .channel .inbox 1) ≡ 48
+  pub behind : (m : Store) → resultsOf m k11 ≡ thenRefused 386 34
+  pub crowded : (m : Store) → resultsOf m k12 ≡ thenRefused 230 35
