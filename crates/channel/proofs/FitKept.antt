@@ -1,5 +1,5 @@
 -- What follows from well-sizedness, and that it is kept where only one card's part changes.
-use Prim.Native.Nat.{ℕ, _-_, _<_}
+use Prim.Native.Nat.{ℕ, _-_, _<_, _≤_}
 use mathlib.Core.Path.{_≡_, refl, sym, _∙_, subst}
 use mathlib.Core.Bool.{Bool, true, false, _&&_, _||_}
 use mathlib.Core.List.{List}
@@ -15,14 +15,14 @@ use Rattle.names.specs.declared.Letter.{Letter}
 use Rattle.channel.specs.Layout.{madeWord, flightBlock, cardsOf, madeOf}
 use Rattle.names.specs.Letters.{letterAt}
 use Rattle.channel.specs.Letters.{fits}
-use Rattle.channel.specs.TakeSingle.{noFlight}
+use Rattle.channel.specs.TakeSingle.{noFlight, flightTag}
 use Rattle.channel.specs.Sized.{blockFits, flightFits, headFits}
 use Rattle.channel.proofs.Destinations.{sole-member, sole-present}
 use Rattle.channel.proofs.SizedFacts.{Sized, cards-most}
 use Rattle.channel.proofs.Frame.{Outside, outside-word}
 use Rattle.channel.specs.MemoryCalls.{SameSizes}
 use Rattle.channel.proofs.WellSizedParts.{CardFit, Fit, same-cards, same-tasks, flight-same, broadcast-same, card-same}
-use Rattle.channel.proofs.FitQueues.{fits-to, fits-small, block-letter}
+use Rattle.channel.proofs.FitQueues.{fits-to, fits-small, block-letter, block-tag}
 
 -- a message in flight
 pub record FlightLetter (ws : List ℕ) (t : ℕ) (l : Letter) : Type 0 where
@@ -31,6 +31,7 @@ pub record FlightLetter (ws : List ℕ) (t : ℕ) (l : Letter) : Type 0 where
   pub one : single (l .to) ≡ true
   pub present : soleOf (l .to) < cardsOf ws
   pub there : memberOf (l .to) (soleOf (l .to)) ≡ true
+  pub small : flightTag ws t ≤ 65535
 
 or-right : (a b : Bool) → (a || b) ≡ true → a ≡ false → b ≡ true
 or-right true b e f = absurd (clash refl f)
@@ -50,6 +51,7 @@ flight-letter ws t e n =
       one = u .2;
       present = sole-present (l .to) s (u .2) (cardsOf ws) (fits-to ws l f);
       there = sole-member (l .to) s (u .2);
+      small = block-tag ws (flightBlock t) (u .0);
     }
 
 pub sized-of : (ws : List ℕ) → length ws ≡ 4808 → Fit ws → Sized ws

@@ -6,19 +6,19 @@ use mathlib.Core.List.{List}
 use native.Mathlib.Nat.{pow-le-pow-right}
 use native.Mathlib.Decide.{decLt}
 use native.Mathlib.Omega.{arith}
-use borrow.Author.Tests.{ltb-true, le-leb}
+use borrow.Author.Tests.{ltb-true, leb-true, le-leb}
 use lib.Dec.{ltb, leb}
 use lib.ListN.{length, getD}
 use Rattle.lists.specs.Tests.{and-snd, and-intro}
-use Rattle.lists.specs.Conjunctions.{and-five}
+use Rattle.lists.specs.Conjunctions.{and-four, and-five}
 use Rattle.names.specs.CardSet.{memberOf, single}
 use Rattle.names.specs.declared.Letter.{Letter}
 use Rattle.channel.specs.Layout.{inboxBlock, heldBlock, cardsOf, tasksOf, registersOf, headOf, countOf, placeOf}
-use Rattle.names.specs.Letters.{letterAt, kindAt, stored, known}
+use Rattle.names.specs.Letters.{letterAt, kindAt, tagAt, stored, known}
 use Rattle.channel.specs.Letters.{addressed, fits}
 use Rattle.channel.specs.Inbox.{pushed, popped}
 use Rattle.channel.specs.Sized.{blockFits, inboxFits, heldFits}
-use Rattle.names.proofs.Blocks.{letter-cong, letter-same}
+use Rattle.names.proofs.Blocks.{letter-cong, letter-same, mark-same}
 use Rattle.channel.proofs.InboxRing.{pushed-word, pushed-count, pushed-head, pushed-block, popped-word, popped-count, popped-head}
 use Rattle.channel.proofs.Sending.{kind-some}
 use Rattle.channel.proofs.SizedFacts.{cards-most}
@@ -44,10 +44,15 @@ module _ (ws : List ℕ) (l : Letter) (f : fits ws l ≡ true) where
       let b : 2 ^ cardsOf ws ≤ 2 ^ 8 = pow-le-pow-right (omega arith) (cards-most ws) in
       omega arith
 
--- a block that fits has a fitting letter
-pub block-letter : (ws : List ℕ) (b : ℕ) → blockFits ws b ≡ true → fits ws (letterAt ws b) ≡ true
-unfolding blockFits
-block-letter ws b e = and-snd (leb 1 (kindAt ws b) && leb (kindAt ws b) 4) (fits ws (letterAt ws b)) e
+-- a block that fits has a fitting letter, and a tag within its limit
+module _ (ws : List ℕ) (b : ℕ) (e : blockFits ws b ≡ true) where
+  pub block-letter : fits ws (letterAt ws b) ≡ true
+  unfolding blockFits
+  block-letter = and-four (leb 1 (kindAt ws b)) (leb (kindAt ws b) 4) (leb (tagAt ws b) 65535) (fits ws (letterAt ws b)) e .3
+
+  pub block-tag : tagAt ws b ≤ 65535
+  unfolding blockFits
+  block-tag = leb-true _ _ (and-four (leb 1 (kindAt ws b)) (leb (kindAt ws b) 4) (leb (tagAt ws b) 65535) (fits ws (letterAt ws b)) e .2)
 
 -- a block just written
 module _ (us ws : List ℕ) (b : ℕ) (l : Letter) (t : ℕ) (f : fits us l ≡ true) (whole : b * 8 + 8 ≤ length ws)
@@ -55,13 +60,14 @@ module _ (us ws : List ℕ) (b : ℕ) (l : Letter) (t : ℕ) (f : fits us l ≡ 
   pub put-letter : letterAt us b ≡ l
   put-letter = letter-cong us (stored ws b l t) b e ∙ letter-same ws b l t whole
 
-  pub put-fits : blockFits us b ≡ true
+  pub put-fits : t ≤ 65535 → blockFits us b ≡ true
   unfolding blockFits
-  put-fits =
+  put-fits small =
       let k = kind-some ws b l t whole in
       let z : b * 8 + 0 ≡ b * 8 = omega arith in
       let q : kindAt us b ≡ kindAt (stored ws b l t) b = rw z at (e 0 (omega arith)) in
-      rw (put-letter, q) (and-intro (and-intro (le-leb _ _ (k .0)) (le-leb _ _ (k .1))) f)
+      let m : tagAt us b ≡ t = e 7 (omega arith) ∙ mark-same ws b l t whole in
+      rw (put-letter, q, m) (and-intro (and-intro (and-intro (le-leb _ _ (k .0)) (le-leb _ _ (k .1))) (le-leb _ _ small)) f)
 
 -- ---- an inbox
 
@@ -100,7 +106,7 @@ module _ (ws : List ℕ) (i : ℕ) (l : Letter) (long : length ws ≡ 4808) (car
           let v = pushed-block ws i l long card room in
           let w : placeOf ws i (countOf ws i) * 8 + 8 ≤ length ws = omega arith in
           rw (pushed-head ws i l long card room, e)
-          (and-intro (put-fits us ws (placeOf ws i (countOf ws i)) l 0 f w v) (rw (put-letter us ws (placeOf ws i (countOf ws i)) l 0 f w v) d))
+          (and-intro (put-fits us ws (placeOf ws i (countOf ws i)) l 0 f w v (omega arith)) (rw (put-letter us ws (placeOf ws i (countOf ws i)) l 0 f w v) d))
 
 -- a pop
 module _ (ws : List ℕ) (i : ℕ) (long : length ws ≡ 4808) (card : i < 8) (n : ℕ) (some-in : countOf ws i ≡ suc n) where
@@ -136,9 +142,9 @@ held-same us ws i n s e f k h =
 pub held-put : (us ws : List ℕ) (i n : ℕ) (l : Letter) (t : ℕ) → SameSizes us ws → n < 16 → i < 8 → length ws ≡ 4808
     → ((a : ℕ) → heldBlock i 0 * 8 ≤ a → a < heldBlock i n * 8 → getD us a 0 ≡ getD ws a 0)
     → ((k : ℕ) → k < 8 → getD us (heldBlock i n * 8 + k) 0 ≡ getD (stored ws (heldBlock i n) l t) (heldBlock i n * 8 + k) 0)
-    → fits us l ≡ true → single (l .to) ≡ true → memberOf (l .to) i ≡ true → HeldFit ws i n → HeldFit us i (suc n)
+    → t ≤ 65535 → fits us l ≡ true → single (l .to) ≡ true → memberOf (l .to) i ≡ true → HeldFit ws i n → HeldFit us i (suc n)
 unfolding heldFits
-held-put us ws i n l t s small card long e v f o d b k h = go (decLt k n)
+held-put us ws i n l t s small card long e v m f o d b k h = go (decLt k n)
   where
     go : Dec (k < n) → (blockFits us (heldBlock i k) && single (letterAt us (heldBlock i k) .to) && memberOf (letterAt us (heldBlock i k) .to) i) ≡ true
     go (yes p) =
@@ -148,4 +154,4 @@ held-put us ws i n l t s small card long e v f o d b k h = go (decLt k n)
         let j : k ≡ n = omega arith in
         let w : heldBlock i n * 8 + 8 ≤ length ws = omega arith in
         let y = put-letter us ws (heldBlock i n) l t f w v in
-        rw j (and-intro (and-intro (put-fits us ws (heldBlock i n) l t f w v) (rw y o)) (rw y d))
+        rw j (and-intro (and-intro (put-fits us ws (heldBlock i n) l t f w v m) (rw y o)) (rw y d))

@@ -15,7 +15,7 @@ use Rattle.names.specs.CardSet.{memberOf, single}
 use Rattle.names.specs.declared.Letter.{Letter}
 use Rattle.channel.specs.State.{Tagged, released}
 use Rattle.channel.specs.Layout.{headWord, countWord, heldWord, heldBlock, countOf, heldCountOf}
-use Rattle.names.specs.Letters.{letterAt, stored}
+use Rattle.names.specs.Letters.{letterAt, tagAt, stored}
 use Rattle.channel.specs.Letters.{fits}
 use Rattle.channel.specs.Inbox.{pushed}
 use Rattle.channel.specs.TakeBroadcast.{Sweep, sweeps, swept, releasedWords}
@@ -26,22 +26,23 @@ use Rattle.channel.proofs.InboxRing.{pushed-word}
 use Rattle.channel.proofs.Release.{heldFirst, fewer, Swept, y, at-k, joins-is, stays-is, space, sweeps-swept, end, swept-all, released-is, release-word}
 use Rattle.channel.specs.MemoryCalls.{SameSizes}
 use Rattle.channel.proofs.WellSizedParts.{fits-same}
-use Rattle.channel.proofs.FitQueues.{block-letter, BoxFit, box-same, push-sizes, push-box, HeldFit, held-same, held-put}
+use Rattle.channel.proofs.FitQueues.{block-letter, block-tag, BoxFit, box-same, push-sizes, push-box, HeldFit, held-same, held-put}
 
 pub sizes-trans : (us vs ws : List ℕ) → SameSizes us vs → SameSizes vs ws → SameSizes us ws
 sizes-trans us vs ws p q = record { cards = p .cards ∙ q .cards; tasks = p .tasks ∙ q .tasks; registers = p .registers ∙ q .registers }
 
--- a held message's letter: it fits, has one destination, and that is card i
-pub record HeldLetter (ws : List ℕ) (i : ℕ) (l : Letter) : Type 0 where
+-- a held message's letter: it fits, has one destination, and that is card i; and its tag
+pub record HeldLetter (ws : List ℕ) (i : ℕ) (l : Letter) (tag : ℕ) : Type 0 where
   pub fit : fits ws l ≡ true
   pub one : single (l .to) ≡ true
   pub here : memberOf (l .to) i ≡ true
+  pub small : tag ≤ 65535
 
-pub held-letter : (ws : List ℕ) (i k : ℕ) → heldFits ws i k ≡ true → HeldLetter ws i (letterAt ws (heldBlock i k))
+pub held-letter : (ws : List ℕ) (i k : ℕ) → heldFits ws i k ≡ true → HeldLetter ws i (letterAt ws (heldBlock i k)) (tagAt ws (heldBlock i k))
 unfolding heldFits
 held-letter ws i k e =
     let u = and-three (blockFits ws (heldBlock i k)) (single (letterAt ws (heldBlock i k) .to)) (memberOf (letterAt ws (heldBlock i k) .to) i) e in
-    record { fit = block-letter ws (heldBlock i k) (u .0); one = u .1; here = u .2 }
+    record { fit = block-letter ws (heldBlock i k) (u .0); one = u .1; here = u .2; small = block-tag ws (heldBlock i k) (u .0) }
 
 -- after the first k held messages
 pub record SweptFit (ws : List ℕ) (i : ℕ) (s : Sweep) : Type 0 where
@@ -55,8 +56,12 @@ module _ (ws : List ℕ) (i n : ℕ) (card : i < 8) (k : ℕ) (s : Sweep) (h : k
   abbrev l : Letter
   l = letterAt (s .words) (heldBlock i k)
 
-  letter : HeldLetter ws i l
-  letter = let e : l ≡ letterAt ws (heldBlock i k) = ap (λ (z : Tagged Letter). z .msg) (at-k ws i n card k s h room v) in rw e (held-letter ws i k g)
+  letter : HeldLetter ws i l (y ws i n card k s h room v .mark)
+  letter =
+      let e = at-k ws i n card k s h room v in
+      let p : l ≡ letterAt ws (heldBlock i k) = ap (λ (z : Tagged Letter). z .msg) e in
+      let q : y ws i n card k s h room v .mark ≡ tagAt ws (heldBlock i k) = ap (λ (z : Tagged Letter). z .mark) e in
+      rw (p, q) (held-letter ws i k g)
 
   module _ (e : eqb (y ws i n card k s h room v .mark) n ≡ true) where
     fit-joins : SweptFit ws i (swept i n k s)
@@ -86,7 +91,7 @@ module _ (ws : List ℕ) (i n : ℕ) (card : i < 8) (k : ℕ) (s : Sweep) (h : k
           sizes = y;
           box = box-same us (s .words) i z (o (headWord i) (λ q r. omega arith)) (o (countWord i) (λ q r. omega arith)) (λ a p q. o a (λ b r. omega arith)) (f .box);
           held = held-put us (s .words) i (s .kept) l t z (omega arith) card (v .long) (λ a p q. o a (λ b r. omega arith)) (λ b r. refl)
-              (fits-same us ws y l ∙ letter .fit) (letter .one) (letter .here) (f .held);
+              (letter .small) (fits-same us ws y l ∙ letter .fit) (letter .one) (letter .here) (f .held);
         })
 
   fit-step : SweptFit ws i (swept i n k s)

@@ -10,7 +10,7 @@ use borrow.Author.Tests.{ltb-true, leb-true, le-leb}
 use lib.Dec.{ltb, leb}
 use lib.ListN.{length, getD, set, length-set}
 use lib.Seq.{getD-set-same, getD-set-other}
-use Rattle.lists.specs.Tests.{eqb-refl, and-fst, and-intro}
+use Rattle.lists.specs.Tests.{eqb-refl, and-fst, and-snd, and-intro}
 use Rattle.lists.specs.Conjunctions.{and-five}
 use Rattle.lists.specs.Every.{each-at}
 use Rattle.names.specs.declared.Card.{Card}
@@ -51,7 +51,8 @@ fits-some ws l f =
 
 -- ---- in flight
 
-module _ (ws : List ℕ) (long : length ws ≡ 4808) (f : Fit ws) (l : Letter) (tag : ℕ) (g : fits ws l ≡ true) (alone : several (l .to) ≡ false) where
+module _ (ws : List ℕ) (long : length ws ≡ 4808) (f : Fit ws) (l : Letter) (tag : ℕ) (small : tag ≤ 65535) (g : fits ws l ≡ true)
+    (alone : several (l .to) ≡ false) where
   abbrev t : ℕ
   t = l .message .task .0
 
@@ -76,7 +77,7 @@ module _ (ws : List ℕ) (long : length ws ≡ 4808) (f : Fit ws) (l : Letter) (
           let w : flightBlock t * 8 + 8 ≤ length ws = omega (arith, t16) in
           let fu : fits us l ≡ true = fits-same us ws sizes l ∙ g in
           let y = put-letter us ws (flightBlock t) l tag fu w (λ k r. refl) in
-          let b = put-fits us ws (flightBlock t) l tag fu w (λ k r. refl) in
+          let b = put-fits us ws (flightBlock t) l tag fu w (λ k r. refl) small in
           let o = single-of (l .to) alone in
           rw e (or-intro (noFlight us t) (and-intro (and-intro b (rw y (eqb-refl t))) (rw y o)))
       go (no n) = flight-same us ws sizes d (λ a p q. word a (λ k r. omega arith)) ∙ f .flight d h
@@ -154,7 +155,7 @@ module _ (ws : List ℕ) (long : length ws ≡ 4808) (f : Fit ws) (l : Letter) (
       let fu : fits cs l ≡ true = fits-same cs ws csizes l ∙ g in
       let v : (k : ℕ) → k < 8 → getD cs (slot * 8 + k) 0 ≡ getD vs (slot * 8 + k) 0 = λ k r. getD-set-other vs 3 (slot * 8 + k) n 0 (omega arith) in
       let e : n - 0 ≡ n = omega arith in
-      rw e (and-intro (put-fits cs ws slot l n fu w v) (rw (put-letter cs ws slot l n fu w v) many))
+      rw e (and-intro (put-fits cs ws slot l n fu w v (omega arith)) (rw (put-letter cs ws slot l n fu w v) many))
   recent-fit (suc k) p h =
       let e : n - suc k ≡ madeOf ws - k = omega arith in
       rw e (broadcast-same cs ws csizes (madeOf ws - k) (λ a u v. cword a (omega arith) (λ b r. omega arith)) ∙ f .recent k (omega arith) (omega arith))
@@ -175,15 +176,22 @@ module _ (ws : List ℕ) (long : length ws ≡ 4808) (f : Fit ws) (l : Letter) (
 -- ---- step 6
 
 module _ (ws : List ℕ) (long : length ws ≡ 4808) (f : Fit ws) where
-  fly-keeps : (i : ℕ) (l : Letter) → several (l .to) ≡ false → Kept (flyMemory ws i l) ws
+  -- a card's number of broadcasts taken, which becomes a tag
+  taken-small : (i : ℕ) → i < cardsOf ws → takenOf ws i ≤ 65535
+  unfolding headFits
+  taken-small i c =
+      let m = leb-true (madeOf ws) 65535 (and-snd (sizesFit (getD ws cardsWord 0) (getD ws tasksWord 0) (getD ws registersWord 0)) (leb (madeOf ws) 65535) (f .sizes)) in
+      omega (arith, f .card i c .behind)
+
+  fly-keeps : (i : ℕ) → i < cardsOf ws → (l : Letter) → several (l .to) ≡ false → Kept (flyMemory ws i l) ws
   unfolding flyMemory flyAnswer isDone
-  fly-keeps i l alone = go (isDone (flyAnswer ws l)) refl
+  fly-keeps i c l alone = go (isDone (flyAnswer ws l)) refl
     where
       us : List ℕ
       us = stored ws (flightBlock (l .message .task .0)) l (takenOf ws i)
 
       go : (b : Bool) → isDone (flyAnswer ws l) ≡ b → Kept (cond b us ws) ws
-      go true e = flown-fit ws long f l (takenOf ws i) (picked (fits ws l) _ IllSized refl e .0) alone
+      go true e = flown-fit ws long f l (takenOf ws i) (taken-small i c) (picked (fits ws l) _ IllSized refl e .0) alone
       go false e = unchanged ws long f
 
   cast-keeps : (l : Letter) → several (l .to) ≡ true → Kept (castMemory ws l) ws
@@ -203,12 +211,12 @@ module _ (ws : List ℕ) (long : length ws ≡ 4808) (f : Fit ws) where
 
   pub dispatch-keeps : (card : Card) (m : Message) (to : ℕ) → Kept (dispatchMemory ws card m to) ws
   unfolding dispatchMemory
-  dispatch-keeps card m to = go (ltb (card .0) (cardsOf ws)) (several to) refl
+  dispatch-keeps card m to = go (ltb (card .0) (cardsOf ws)) (several to) refl refl
     where
       l : Letter
       l = letterOf card m to
 
-      go : (b c : Bool) → several to ≡ c → Kept (cond b (cond c (castMemory ws l) (flyMemory ws (card .0) l)) ws) ws
-      go true true e = cast-keeps l e
-      go true false e = fly-keeps (card .0) l e
-      go false c e = unchanged ws long f
+      go : (b c : Bool) → ltb (card .0) (cardsOf ws) ≡ b → several to ≡ c → Kept (cond b (cond c (castMemory ws l) (flyMemory ws (card .0) l)) ws) ws
+      go true true p e = cast-keeps l e
+      go true false p e = fly-keeps (card .0) (ltb-true (card .0) (cardsOf ws) p) l e
+      go false c p e = unchanged ws long f

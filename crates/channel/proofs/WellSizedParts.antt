@@ -12,7 +12,7 @@ use Rattle.lists.specs.Conjunctions.{and-three, and-four, and-five}
 use Rattle.lists.specs.Every.{each, each-at, each-of}
 use Rattle.names.specs.declared.Letter.{Letter}
 use Rattle.channel.specs.Layout.{takenWord, headWord, countWord, heldWord, heldBlock, flightBlock, broadcastBlock, cardsOf, tasksOf, madeOf, takenOf, headOf, countOf, heldCountOf, placeOf}
-use Rattle.names.specs.Letters.{letterAt, kindAt}
+use Rattle.names.specs.Letters.{letterAt, kindAt, tagAt}
 use Rattle.channel.specs.Letters.{addressed, fits}
 use Rattle.channel.specs.TakeSingle.{noFlight}
 use Rattle.channel.specs.Sized.{blockFits, inboxFits, heldFits, flightFits, broadcastFits, countsFit, cardFits, recentFits, headFits, wellSized}
@@ -107,9 +107,12 @@ module _ (us ws : List ℕ) (s : SameSizes us ws) where
     pub kind= : kindAt us b ≡ kindAt ws b
     kind= = let z : b * 8 + 0 ≡ b * 8 = omega arith in rw z at (e 0 (omega arith))
 
+    tag= : tagAt us b ≡ tagAt ws b
+    tag= = e 7 (omega arith)
+
     pub block-same : blockFits us b ≡ blockFits ws b
     unfolding blockFits
-    block-same = rw (kind=, letter=, fits-same (letterAt ws b))
+    block-same = rw (kind=, tag=, letter=, fits-same (letterAt ws b))
 
     pub to-same : letterAt us b .to ≡ letterAt ws b .to
     to-same = ap (λ (l : Letter). l .to) letter=

@@ -1,7 +1,7 @@
 -- A well-sized memory: what a step must find, else it is refused with 6 ("an ill-sized state: a size, number or queue length past its
 -- limit .. A home, destination or message field naming an absent card, task or register, or an unknown function, is past its limit too. So
 -- is a card's number of broadcasts taken when it is above the number made or more than 64 below it"). The parts of absent cards and tasks
--- are not looked at. No fault: more than 32 broadcasts in an inbox of at most 48, and a tag above the number made.
+-- are not looked at. No fault: more than 32 broadcasts in an inbox of at most 48, and a tag above the number made but not past its limit.
 use Prim.Native.Nat.{ℕ, _+_, _-_, min}
 use mathlib.Core.Bool.{Bool, _&&_, _||_}
 use mathlib.Core.List.{List}
@@ -10,14 +10,14 @@ use lib.ListN.{getD}
 use Rattle.lists.specs.Every.{each}
 use Rattle.names.specs.CardSet.{memberOf, several, single}
 use Rattle.channel.specs.Layout.{cardsWord, tasksWord, registersWord, cardsOf, tasksOf, madeOf, takenOf, headOf, countOf, heldCountOf, placeOf, heldBlock, flightBlock, broadcastBlock}
-use Rattle.names.specs.Letters.{letterAt, kindAt}
+use Rattle.names.specs.Letters.{letterAt, kindAt, tagAt}
 use Rattle.channel.specs.Letters.{fits}
 use Rattle.channel.specs.Begin.{sizesFit}
 use Rattle.channel.specs.TakeSingle.{noFlight}
 
--- block b has a message, and no field of it is past its limit
+-- block b has a message, and no field of it is past its limit; a tag is a broadcast number, and "broadcast numbers .. end at 65,535"
 unfoldable pub blockFits : List ℕ → ℕ → Bool
-blockFits ws b = leb 1 (kindAt ws b) && leb (kindAt ws b) 4 && fits ws (letterAt ws b)
+blockFits ws b = leb 1 (kindAt ws b) && leb (kindAt ws b) 4 && leb (tagAt ws b) 65535 && fits ws (letterAt ws b)
 
 -- place k of card i's inbox: "It joins the inbox if the card is a destination"
 unfoldable pub inboxFits : List ℕ → ℕ → ℕ → Bool

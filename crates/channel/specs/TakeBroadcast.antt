@@ -60,9 +60,13 @@ releasedWords ws i n =
     let s : Sweep = sweeps i n (min (heldCountOf ws i) 16) ws in
     set (s .words) (heldWord i) (s .kept)
 
+-- broadcast n, whose letter is l, joins card i's inbox, and then what waited for it
+abbrev pub arrived : List ℕ → ℕ → ℕ → Letter → List ℕ
+arrived ws i n l = releasedWords (pushed ws i l) i n
+
 -- card i has taken broadcast n, whose letter is l; `there`: it is a destination
 unfoldable pub joined : List ℕ → ℕ → ℕ → Letter → Bool → List ℕ
-joined ws i n l there = releasedWords (cond there (pushed (set ws (takenWord i) n) i l) (set ws (takenWord i) n)) i n
+joined ws i n l there = cond there (arrived (set ws (takenWord i) n) i n l) (releasedWords (set ws (takenWord i) n) i n)
 
 -- the next broadcast for card i
 abbrev pub nextLetter : List ℕ → ℕ → Letter

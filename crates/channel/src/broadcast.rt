@@ -2,7 +2,7 @@
 ghost use mathlib.Core.Path.{_≡_};
 ghost use lib.Dec.{leb};
 ghost use Prim.Native.Nat.{_<_, _≤_, _+_};
-ghost use Rattle.channel.specs.TakeBroadcast.{readyAt, releasableOf, broadcastAt, broadcastsOf, sweptWords, sweptKept, releasedWords, joined, roomAnswer, takeAnswer, takeMemory};
+ghost use Rattle.channel.specs.TakeBroadcast.{readyAt, releasableOf, broadcastAt, broadcastsOf, sweptWords, sweptKept, releasedWords, arrived, joined, roomAnswer, takeAnswer, takeMemory};
 use super::answers::done;
 use super::inbox::push;
 use super::layout::BLOCKS;
@@ -129,6 +129,15 @@ fn crowded(memory: &[u32; 4808], i: usize) -> bool
     32 <= broadcasts(memory, i)
 }
 
+// A broadcast and its number reach card i, a destination: it joins the inbox, and then what waited for it.
+fn arrive(memory: &mut [u32; 4808], i: usize, number: u32, broadcast: Letter)
+    requires { ⌜ i < 8 ⌝ }
+    ensures { λ _. ⌜ now (memory .exit) ≡ arrived (now (memory .entry)) i number broadcast ⌝ }
+{
+    push(memory, i, broadcast);
+    release(memory, i, number);
+}
+
 // Card i takes broadcast n, whose letter is `letter`.
 fn join(memory: &mut [u32; 4808], i: usize, n: u32, letter: Letter, there: bool)
     requires { ⌜ i < 8 ⌝ }
@@ -136,8 +145,7 @@ fn join(memory: &mut [u32; 4808], i: usize, n: u32, letter: Letter, there: bool)
 {
     memory[FIRST + i * PART] = n;
     if there {
-        push(memory, i, letter);
-        release(memory, i, n);
+        arrive(memory, i, n, letter);
         return;
     }
     release(memory, i, n);

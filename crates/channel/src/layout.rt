@@ -97,22 +97,12 @@ pub fn taken(memory: &[u32; 4808], card: Card) -> u32
 pub(crate) fn sizes_fit(cards: u32, tasks: u32, registers: u32) -> bool
     ensures { λ r. ⌜ r ≡ sizesFit cards tasks registers ⌝ }
 {
-    if cards < 1 {
-        return false;
-    }
-    if 8 < cards {
-        return false;
-    }
-    if tasks < 1 {
-        return false;
-    }
-    if 16 < tasks {
-        return false;
-    }
-    if registers < 1 {
-        return false;
-    }
-    registers <= 32
+    (1 <= cards)
+        & (cards <= 8)
+        & (1 <= tasks)
+        & (tasks <= 16)
+        & (1 <= registers)
+        & (registers <= 32)
 }
 
 // The memory for these sizes with every queue empty and no broadcast made.

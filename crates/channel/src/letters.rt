@@ -73,17 +73,9 @@ pub fn fits(memory: &[u32; 4808], letter: Letter) -> bool
 {
     let message = letter.message;
     let body = message.body;
-    if tasks(memory) <= message.task.0 {
-        return false;
-    }
-    if registers(memory) <= message.register.0 {
-        return false;
-    }
-    if !names::letters::known(body) {
-        return false;
-    }
-    if cards(memory) <= letter.from.0 {
-        return false;
-    }
-    addressed(memory, letter.to)
+    let placed = (message.task.0 < tasks(memory)) & (message.register.0 < registers(memory));
+    placed
+        & names::letters::known(body)
+        & (letter.from.0 < cards(memory))
+        & addressed(memory, letter.to)
 }

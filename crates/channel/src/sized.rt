@@ -1,4 +1,5 @@
-// The check of the whole memory that refusal 6 for the state asks for.
+// The check of the whole memory that refusal 6 for the state asks for. Tests are joined by `&`, with no early return: a proof then answers
+// for one way out, and the check takes half as long.
 ghost use mathlib.Core.Path.{_≡_};
 ghost use Prim.Native.Nat.{_<_, _≤_, min};
 ghost use Rattle.lists.specs.Every.{each};
@@ -28,20 +29,16 @@ use super::letters::load;
 use super::single::no_flight;
 use names::Card;
 
-// Whether a block has a message with no field past its limit.
+// Whether a block has a message with no field past its limit, its tag among them.
 fn block_fits(memory: &[u32; 4808], block: usize) -> bool
     requires { ⌜ block < 601 ⌝ }
     ensures { λ r. ⌜ r ≡ blockFits (now (memory .entry)) block ⌝ }
 {
-    let kind = memory[block * 8];
-    if kind < 1 {
-        return false;
-    }
-    if 4 < kind {
-        return false;
-    }
+    let at = block * 8;
+    let kind = memory[at];
+    let tag = memory[at + 7];
     let letter = load(memory, block);
-    fits(memory, letter)
+    (1 <= kind) & (kind <= 4) & (tag <= 65535) & fits(memory, letter)
 }
 
 // Whether place k of card i's inbox is in order.
@@ -51,11 +48,8 @@ fn inbox_fits(memory: &[u32; 4808], i: usize, k: u32) -> bool
 {
     let head = memory[FIRST + i * PART + HEAD];
     let block = INBOX + i * BLOCKS + ((head % 48 + k) % 48) as usize;
-    if !block_fits(memory, block) {
-        return false;
-    }
     let to = memory[block * 8 + 6];
-    names::member(to, Card(i as u32))
+    block_fits(memory, block) & names::member(to, Card(i as u32))
 }
 
 // Whether place k of what is held for card i is in order.
@@ -64,14 +58,8 @@ fn held_fits(memory: &[u32; 4808], i: usize, k: usize) -> bool
     ensures { λ r. ⌜ r ≡ heldFits (now (memory .entry)) i k ⌝ }
 {
     let block = KEPT + i * BLOCKS + k;
-    if !block_fits(memory, block) {
-        return false;
-    }
     let to = memory[block * 8 + 6];
-    if !names::single(to) {
-        return false;
-    }
-    names::member(to, Card(i as u32))
+    block_fits(memory, block) & names::single(to) & names::member(to, Card(i as u32))
 }
 
 // Whether task t's flight slot is in order.
@@ -79,17 +67,11 @@ fn flight_fits(memory: &[u32; 4808], t: usize) -> bool
     requires { ⌜ t < 16 ⌝ }
     ensures { λ r. ⌜ r ≡ flightFits (now (memory .entry)) t ⌝ }
 {
-    if no_flight(memory, t) {
-        return true;
-    }
     let block = FLIGHT + t;
-    if !block_fits(memory, block) {
-        return false;
-    }
-    if wide(memory[block * 8 + 1]) != t {
-        return false;
-    }
-    names::single(memory[block * 8 + 6])
+    let at = block * 8;
+    let task = wide(memory[at + 1]);
+    let to = memory[at + 6];
+    no_flight(memory, t) | (block_fits(memory, block) & (task == t) & names::single(to))
 }
 
 // Whether broadcast n is in order.
@@ -97,10 +79,8 @@ fn broadcast_fits(memory: &[u32; 4808], n: u32) -> bool
     ensures { λ r. ⌜ r ≡ broadcastFits (now (memory .entry)) n ⌝ }
 {
     let block = RECENT + (n % 64) as usize;
-    if !block_fits(memory, block) {
-        return false;
-    }
-    names::several(memory[block * 8 + 6])
+    let to = memory[block * 8 + 6];
+    block_fits(memory, block) & names::several(to)
 }
 
 // Whether card i's counts are in order.
@@ -111,19 +91,10 @@ fn counts_fit(memory: &[u32; 4808], i: usize) -> bool
     let at = FIRST + i * PART;
     let taken = wide(memory[at]);
     let made = wide(memory[MADE]);
-    if made < taken {
-        return false;
-    }
-    if taken + 64 < made {
-        return false;
-    }
-    if 48 <= memory[at + HEAD] {
-        return false;
-    }
-    if 48 < memory[at + COUNT] {
-        return false;
-    }
-    memory[at + HELD] <= 16
+    let head = memory[at + HEAD];
+    let count = memory[at + COUNT];
+    let held = memory[at + HELD];
+    (taken <= made) & (made <= taken + 64) & (head < 48) & (count <= 48) & (held <= 16)
 }
 
 // Whether card i's inbox is in order.
@@ -163,13 +134,7 @@ fn card_fits(memory: &[u32; 4808], i: usize) -> bool
     requires { ⌜ i < 8 ⌝ }
     ensures { λ r. ⌜ r ≡ cardFits (now (memory .entry)) i ⌝ }
 {
-    if !counts_fit(memory, i) {
-        return false;
-    }
-    if !inbox_all(memory, i) {
-        return false;
-    }
-    held_all(memory, i)
+    counts_fit(memory, i) & inbox_all(memory, i) & held_all(memory, i)
 }
 
 // Whether every card's part is in order.
@@ -222,24 +187,13 @@ fn recent_all(memory: &[u32; 4808]) -> bool
 fn head_fits(memory: &[u32; 4808]) -> bool
     ensures { λ r. ⌜ r ≡ headFits (now (memory .entry)) ⌝ }
 {
-    if !sizes_fit(memory[CARDS], memory[TASKS], memory[REGISTERS]) {
-        return false;
-    }
-    memory[MADE] <= 65535
+    let made = memory[MADE];
+    sizes_fit(memory[CARDS], memory[TASKS], memory[REGISTERS]) & (made <= 65535)
 }
 
 // Whether the memory is well sized; else a step is refused with 6.
 pub fn well_sized(memory: &[u32; 4808]) -> bool
     ensures { λ r. ⌜ r ≡ wellSized (now (memory .entry)) ⌝ }
 {
-    if !head_fits(memory) {
-        return false;
-    }
-    if !card_all(memory) {
-        return false;
-    }
-    if !flight_all(memory) {
-        return false;
-    }
-    recent_all(memory)
+    head_fits(memory) & card_all(memory) & flight_all(memory) & recent_all(memory)
 }

@@ -15,22 +15,19 @@ mul-memory-2 c = search needs
 element-write-memory : tie.Need-element-write-memory
 element-write-memory c = search needs
 
-push-requires : tie.Need-push-requires
-push-requires c κs = search needs
+arrive-requires : tie.Need-arrive-requires
+arrive-requires c κs = search needs
+
+returns : tie.Need-returns
+unfolding joined
+returns c = simp (c .arrive .ensures, c .before .before .if1 .taken)
 
 release-requires : tie.Need-release-requires
 release-requires c κs = search needs
 
-returns : tie.Need-returns
-unfolding joined
-returns c = simp (c .release .ensures, c .before .before .push .ensures, c .before .before .before .before .if1 .taken)
-
-release-requires-2 : tie.Need-release-requires-2
-release-requires-2 c κs = search needs
-
 returns-2 : tie.Need-returns-2
 unfolding joined
-returns-2 c = simp (c .release2 .ensures, c .before .before .if1 .left)
+returns-2 c = simp (c .release .ensures, c .before .before .if1 .left)
 
 pub join-spec : {M : Type 1} → statement M
-join-spec = tie.close (tie.spec mul-memory add-memory mul-memory-2 element-write-memory push-requires release-requires returns release-requires-2 returns-2)
+join-spec = tie.close (tie.spec mul-memory add-memory mul-memory-2 element-write-memory arrive-requires returns release-requires returns-2)

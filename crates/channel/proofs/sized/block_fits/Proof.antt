@@ -1,25 +1,25 @@
 use borrow.Author.Needs.{needs}
-use borrow.Author.Tests.{le-leb, lt-leb}
 use Rattle.channel.specs.Sized.{blockFits}
 use Rattle.channel.proofs.sized.block_fits.Statement.{statement}
 use Rattle.channel.proofs.sized.block_fits.Tie as tie
 
+mul-at : tie.Need-mul-at
+mul-at c = search needs
+
 mul-kind : tie.Need-mul-kind
 mul-kind c = search needs
-
-mul-kind-2 : tie.Need-mul-kind-2
-mul-kind-2 c = search needs
 
 element-copy-out-kind : tie.Need-element-copy-out-kind
 element-copy-out-kind c = search needs
 
-returns : tie.Need-returns
-unfolding blockFits
-returns c = simp (lt-leb _ _ (c .if1 .taken))
+add-tag : tie.Need-add-tag
+add-tag c = search needs
 
-returns-2 : tie.Need-returns-2
-unfolding blockFits
-returns-2 c = simp (le-leb _ _ (c .before .if1 .left), lt-leb _ _ (c .if2 .taken))
+mul-tag : tie.Need-mul-tag
+mul-tag c = search needs
+
+element-copy-out-tag : tie.Need-element-copy-out-tag
+element-copy-out-tag c = search needs
 
 load-requires : tie.Need-load-requires
 load-requires c κs = search needs
@@ -27,9 +27,20 @@ load-requires c κs = search needs
 fits-requires : tie.Need-fits-requires
 fits-requires c κs = search needs
 
-returns-3 : tie.Need-returns-3
+returns : tie.Need-returns
 unfolding blockFits
-returns-3 c = simp (le-leb _ _ (c .before .before .before .if1 .left), le-leb _ _ (c .before .before .if2 .left), ← (c .before .load .ensures)) (c .fits2 .ensures)
+returns c = rw (← (c .before .load .ensures), ← (c .fits2 .ensures))
 
 pub block-fits-spec : {M : Type 1} → statement M
-block-fits-spec = tie.close (tie.spec mul-kind mul-kind-2 element-copy-out-kind returns returns-2 load-requires fits-requires returns-3)
+block-fits-spec =
+    tie.close
+    (tie.spec
+    mul-at
+    mul-kind
+    element-copy-out-kind
+    add-tag
+    mul-tag
+    element-copy-out-tag
+    load-requires
+    fits-requires
+    returns)

@@ -1,6 +1,4 @@
-use mathlib.Core.Path.{sym, _∙_}
 use borrow.Author.Needs.{needs}
-use borrow.Author.Tests.{not-true, not-false}
 use Rattle.names.specs.Letters.{letterAt}
 use Rattle.channel.specs.Sized.{inboxFits}
 use Rattle.channel.proofs.sized.inbox_fits.Statement.{statement}
@@ -36,13 +34,6 @@ cast-block c = search needs
 add-block-3 : tie.Need-add-block-3
 add-block-3 c = search needs
 
-block-fits-requires : tie.Need-block-fits-requires
-block-fits-requires c κs = search needs
-
-returns : tie.Need-returns
-unfolding inboxFits
-returns c = simp (sym (c .before .block-fits .ensures) ∙ not-true _ (c .if1 .taken))
-
 mul-to : tie.Need-mul-to
 mul-to c = search needs
 
@@ -55,15 +46,38 @@ mul-to-2 c = search needs
 element-copy-out-to : tie.Need-element-copy-out-to
 element-copy-out-to c = search needs
 
-cast-t15 : tie.Need-cast-t15
-cast-t15 c = search needs
+block-fits-requires : tie.Need-block-fits-requires
+block-fits-requires c κs = search needs
+
+cast-t13 : tie.Need-cast-t13
+cast-t13 c = search needs
 
 member-requires : tie.Need-member-requires
 member-requires c κs = search needs
 
-returns-2 : tie.Need-returns-2
+returns : tie.Need-returns
 unfolding inboxFits letterAt
-returns-2 c = simp (sym (c .before .before .before .block-fits .ensures) ∙ not-false _ (c .before .before .if1 .left)) (c .member .ensures)
+returns c = rw (← (c .before .block-fits .ensures), ← (c .member .ensures))
 
 pub inbox-fits-spec : {M : Type 1} → statement M
-inbox-fits-spec = tie.close (tie.spec mul-head add-head add-head-2 mul-head-2 element-copy-out-head mul-block add-block add-block-2 cast-block add-block-3 block-fits-requires returns mul-to add-to mul-to-2 element-copy-out-to cast-t15 member-requires returns-2)
+inbox-fits-spec =
+    tie.close
+    (tie.spec
+    mul-head
+    add-head
+    add-head-2
+    mul-head-2
+    element-copy-out-head
+    mul-block
+    add-block
+    add-block-2
+    cast-block
+    add-block-3
+    mul-to
+    add-to
+    mul-to-2
+    element-copy-out-to
+    block-fits-requires
+    cast-t13
+    member-requires
+    returns)
