@@ -117,7 +117,7 @@ fn placement(random: &mut Random, cards: u8, registers: usize, tasks: usize) -> 
 }
 
 /// An accepted placement of any size; small and full sizes come often.
-fn any_placement(random: &mut Random) -> Placement {
+pub(crate) fn any_placement(random: &mut Random) -> Placement {
     let size = |random: &mut Random, most: usize| match random.between(0, 4) {
         0 => most,
         1 => random.between(1, most.min(3)),
@@ -139,7 +139,7 @@ fn unguided(random: &mut Random, step: impl Fn(&mut Random, &Placement) -> RawSt
 }
 
 /// A step whose bytes mostly lie in their ranges or just outside.
-fn near(random: &mut Random, placement: &Placement) -> RawStep {
+pub(crate) fn near(random: &mut Random, placement: &Placement) -> RawStep {
     let code = if random.percent(3) {
         random.pick(&[0, 11, 12, 255])
     } else {
@@ -179,7 +179,7 @@ fn near(random: &mut Random, placement: &Placement) -> RawStep {
 }
 
 /// Small numbers, single bits, and numbers that an addition brings past the largest.
-fn operand(random: &mut Random) -> u32 {
+pub(crate) fn operand(random: &mut Random) -> u32 {
     match random.between(0, 3) {
         0 => random.between(0, 9) as u32,
         1 => 1 << random.between(0, 31),

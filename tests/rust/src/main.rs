@@ -4,6 +4,8 @@ use std::path::Path;
 use std::process::ExitCode;
 
 use gondzselu_model::generate::{self, Kind};
+#[cfg(feature = "library")]
+use gondzselu_model::library;
 use gondzselu_model::model::files::{program_output, RawStep, Run};
 use gondzselu_model::named;
 use gondzselu_model::random::Random;
@@ -16,7 +18,9 @@ compare generate SEED COUNT DIR  writes run files and the model's answers
 compare stored DIR               writes the runs that crates/runs keeps, with the model's answers
 compare statistics SEED COUNT    what generated files contain
 compare self SEED COUNT          checks the model against itself
-compare library SEED COUNT       compares the library (feature library)";
+compare library SEED COUNT       compares the library on files (feature library)
+compare steps SEED COUNT         the same, step by step, with what the memories show
+compare states SEED COUNT        compares it on states made by hand, and on K1 to K13";
 
 fn main() -> ExitCode {
     let words: Vec<String> = std::env::args().skip(1).collect();
@@ -28,9 +32,13 @@ fn main() -> ExitCode {
         ["statistics", seed, count] => each(seed, count, |_, _| Ok(())),
         ["self", seed, count] => self_checks(seed, count),
         #[cfg(feature = "library")]
-        ["library", seed, count] => each(seed, count, |_, file| {
-            gondzselu_model::library::compare(file)
+        ["library", seed, count] => each(seed, count, |_, file| library::compare(file)),
+        #[cfg(feature = "library")]
+        ["steps", seed, count] => each(seed, count, |item, file| {
+            library::compare_steps(file, &mut Random::new(item, 1))
         }),
+        #[cfg(feature = "library")]
+        ["states", seed, count] => states(seed, count),
         _ => Err(USAGE.into()),
     };
     match result {
@@ -134,5 +142,27 @@ fn self_checks(seed: &str, count: &str) -> Result<(), String> {
         orders,
     } = checked;
     println!("checked {runs} runs, {steps} steps, {orders} serial orders");
+    Ok(())
+}
+
+/// K1 to K13, single words of the memories, and states made by hand.
+#[cfg(feature = "library")]
+fn states(seed: &str, count: &str) -> Result<(), String> {
+    library::compare_named()?;
+    let words = library::states::compare_words()?;
+    let (seed, count) = (number(seed)?, number(count)?);
+    let mut compared = library::states::Compared::default();
+    for item in 0..count {
+        library::states::compare(&mut Random::new(seed, item), &mut compared)
+            .map_err(|words| format!("seed {seed} item {item}: {words}"))?;
+    }
+    println!("K1 to K13, {words} single words");
+    println!(
+        "{} states, {} of them ill-sized; steps of the others by result",
+        compared.states, compared.ill_sized
+    );
+    for (result, count) in compared.results {
+        println!("  {result:>3} {count:>9}");
+    }
     Ok(())
 }
