@@ -1,4 +1,5 @@
--- K2, K7 to K10, and the numbers of steps refused for themselves or because there is nothing there, computed.
+-- What K9 and K10 leave in the queues and the table, and the numbers of steps refused for themselves or because there is nothing there,
+-- computed. The answers of K1 to K10 stand in crates/named.
 use lib.Dec.{eqb, leb}
 use mathlib.Core.List.{[], map, _∷_}
 use mathlib.Core.Path.{refl, _≡_}
@@ -7,7 +8,7 @@ use Rattle.lists.specs.Loops.{total, turns}
 use Rattle.names.specs.CardSet.{justOf, memberOf, several, single, sizeOf, soleOf}
 use Rattle.names.specs.Placement.{homePlaced, homesPlaced, placed, placementRefusal, registerPlaced, registersPlaced, sized, sizesInRange}
 use Rattle.names.specs.Update.{largerOf, sumOf, updated}
-use Rattle.claims.specs.NamedRuns.{k10, k10-held, k2, k7, k8, k9, k9-held, readings, results, step, three, tiny}
+use Rattle.claims.specs.NamedRuns.{k10-held, k9, k9-held, results, step, three, tiny}
 use Rattle.claims.specs.PublishedRun.{publishedRun}
 use Rattle.claims.specs.SerialOrder.{appliedOn}
 use Rattle.claims.specs.Steps.{cardThere, commandOf, decode, functionThere, known, namesCard, namesChosen, namesFunction, namesRegister, namesTask, operand, registerThere, taskThere, unnamedZero}
@@ -20,31 +21,6 @@ tiny-accepted = refl
 pub three-accepted : placementRefusal three ≡ 0
 unfolding placementRefusal sized sizesInRange placed homesPlaced homePlaced registersPlaced registerPlaced each memberOf eqb leb
 three-accepted = refl
-
-k2-results : results tiny k2 ≡ 0 ∷ 0 ∷ 0 ∷ 0 ∷ 0 ∷ 0 ∷ []
-unfolding decode known unnamedZero taskThere registerThere cardThere functionThere namesTask namesCard namesRegister namesChosen namesFunction operand commandOf each memberOf several single sizeOf soleOf justOf total turns updated sumOf largerOf eqb leb
-k2-results = refl
-
-k2-readings : readings tiny k2 ≡ 0 ∷ 0 ∷ 0 ∷ 0 ∷ 0 ∷ 5 ∷ []
-unfolding decode known unnamedZero taskThere registerThere cardThere functionThere namesTask namesCard namesRegister namesChosen namesFunction operand commandOf each memberOf several single sizeOf soleOf justOf total turns updated sumOf largerOf eqb leb
-k2-readings = refl
-
-k7-results : results tiny k7 ≡ 0 ∷ 13 ∷ 20 ∷ []
-unfolding decode known unnamedZero taskThere registerThere cardThere functionThere namesTask namesCard namesRegister namesChosen namesFunction operand commandOf each memberOf several single sizeOf soleOf justOf total turns updated sumOf largerOf eqb leb
-k7-results = refl
-
-k8-results : results tiny k8 ≡ 0 ∷ 22 ∷ 0 ∷ []
-unfolding decode known unnamedZero taskThere registerThere cardThere functionThere namesTask namesCard namesRegister namesChosen namesFunction operand commandOf each memberOf several single sizeOf soleOf justOf total turns updated sumOf largerOf eqb leb
-k8-results = refl
-
-k9-results : results three k9 ≡ 0 ∷ 0 ∷ 0 ∷ 0 ∷ 0 ∷ 0 ∷ 0 ∷ 0 ∷ 0 ∷ 0 ∷ 0 ∷ 0 ∷ 33 ∷ 0 ∷ 0 ∷ 0 ∷ []
-unfolding decode known unnamedZero taskThere registerThere cardThere functionThere namesTask namesCard namesRegister namesChosen namesFunction operand commandOf each memberOf several single sizeOf soleOf justOf total turns updated sumOf largerOf eqb leb
-k9-results = refl
-
--- task 0 reads 7
-k9-readings : readings three k9 ≡ 0 ∷ 0 ∷ 0 ∷ 0 ∷ 0 ∷ 0 ∷ 0 ∷ 7 ∷ 0 ∷ 0 ∷ 0 ∷ 0 ∷ 0 ∷ 0 ∷ 0 ∷ 0 ∷ []
-unfolding decode known unnamedZero taskThere registerThere cardThere functionThere namesTask namesCard namesRegister namesChosen namesFunction operand commandOf each memberOf several single sizeOf soleOf justOf total turns updated sumOf largerOf eqb leb
-k9-readings = refl
 
 -- the message for card 1 is held there, tagged 1, and nothing is in its inbox
 k9-tag : map (λ x. x .mark) ((publishedRun three k9-held .0) .channel .held 1) ≡ 1 ∷ []
@@ -67,10 +43,6 @@ k9-seven = refl
 k9-nine : (publishedRun three k9 .0) .table 1 1 ≡ 9
 unfolding decode known unnamedZero taskThere registerThere cardThere functionThere namesTask namesCard namesRegister namesChosen namesFunction operand commandOf each memberOf several single sizeOf soleOf justOf total turns updated sumOf largerOf eqb leb
 k9-nine = refl
-
-k10-results : results three k10 ≡ 0 ∷ 0 ∷ 0 ∷ 0 ∷ 0 ∷ 0 ∷ 0 ∷ 0 ∷ 0 ∷ 0 ∷ 0 ∷ 0 ∷ 33 ∷ 0 ∷ 0 ∷ 0 ∷ 0 ∷ []
-unfolding decode known unnamedZero taskThere registerThere cardThere functionThere namesTask namesCard namesRegister namesChosen namesFunction operand commandOf each memberOf several single sizeOf soleOf justOf total turns updated sumOf largerOf eqb leb
-k10-results = refl
 
 -- the reply is held at card 0, tagged 1
 k10-tag : map (λ x. x .mark) ((publishedRun three k10-held .0) .channel .held 0) ≡ 1 ∷ []

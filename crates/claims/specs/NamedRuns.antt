@@ -1,4 +1,4 @@
--- K2 and K7 to K10 (01, "Named runs"), as lists of steps on the idealised level.
+-- K2, K9 and K10 (01, "Named runs"), as lists of steps on the idealised level.
 use Prim.Native.Nat.{ℕ}
 use mathlib.Core.List.{List, [], _∷_, _++_, map}
 use Rattle.names.specs.Placement.{Placement}
@@ -17,9 +17,6 @@ set c x v = record { code = 2; argument = c ∷ x ∷ 1 ∷ 0 ∷ v ∷ 0 ∷ 0 
 abbrev pub results : Placement → List RawStep → List ℕ
 results P l = map (λ a. a .result) (publishedRun P l .1)
 
-abbrev pub readings : Placement → List RawStep → List ℕ
-readings P l = map (λ a. a .value) (publishedRun P l .1)
-
 -- one card, one register, one task
 abbrev pub tiny : Placement
 tiny = record { cards = 1; homes = 0 ∷ []; copies = 1 ∷ []; primaries = 0 ∷ [] }
@@ -29,14 +26,6 @@ abbrev pub k2 : List RawStep
 k2 =
     record { code = 2; argument = 0 ∷ 0 ∷ 2 ∷ 0 ∷ 5 ∷ 0 ∷ 0 ∷ 0 ∷ [] }
     ∷ step 3 (0 ∷ []) ∷ step 10 (0 ∷ []) ∷ step 1 (0 ∷ []) ∷ step 3 (0 ∷ []) ∷ step 10 (0 ∷ []) ∷ []
-
--- "K7 a busy task asks for an absent register: 13; for a present one: 20."
-abbrev pub k7 : List RawStep
-k7 = step 1 (0 ∷ 0 ∷ []) ∷ step 1 (0 ∷ 1 ∷ []) ∷ step 1 (0 ∷ 0 ∷ []) ∷ []
-
--- "K8 the only copy is at home: code 5 gives 22, code 3 is taken."
-abbrev pub k8 : List RawStep
-k8 = set 0 0 1 ∷ step 5 (0 ∷ []) ∷ step 3 (0 ∷ []) ∷ []
 
 -- "K9 three cards, a task on each. Register 0 everywhere, register 1 on card 1."
 abbrev pub three : Placement
@@ -59,7 +48,3 @@ abbrev pub k10-held : List RawStep
 k10-held =
     set 2 0 7 ∷ step 5 (2 ∷ []) ∷ step 6 (2 ∷ []) ∷ step 7 (1 ∷ []) ∷ step 9 (1 ∷ [])
     ∷ step 1 (0 ∷ 1 ∷ []) ∷ step 4 (0 ∷ 1 ∷ []) ∷ step 6 (0 ∷ []) ∷ step 8 (0 ∷ []) ∷ step 9 (1 ∷ []) ∷ step 6 (1 ∷ []) ∷ step 8 (0 ∷ []) ∷ []
-
--- "The reply is held at card 0 until broadcast 1 is taken there."
-abbrev pub k10 : List RawStep
-k10 = k10-held ++ (step 9 (0 ∷ []) ∷ step 7 (0 ∷ []) ∷ step 9 (0 ∷ []) ∷ step 9 (0 ∷ []) ∷ step 10 (0 ∷ []) ∷ [])

@@ -18,7 +18,8 @@ use Rattle.store.proofs.StartLaw.{start-stands}
 use Rattle.store.proofs.Demand3.{answers-same, store-demand-3}
 use Rattle.runfile.specs.RunFile.{stepsIn, placementIn, runFileIn, fileRefusal, joined}
 use Rattle.runfile.specs.AnswerFile.{fourBytes, answerBytes, answered}
-use Rattle.runfile.specs.Run.{answersIn, isTaken, isRefused, answerOf, answerRefusal, answerOutput, takenOf, refusedOf}
+use Rattle.tally.specs.Tally.{isTaken}
+use Rattle.runfile.specs.Run.{answersIn, isRefused, answerOf, answerRefusal, answerOutput, takenOf, refusedOf}
 use Rattle.runfile.specs.FileRun.{FileRun}
 use Rattle.runfile.proofs.RunFileLaws.{accepted-placement, accepted-steps}
 use Rattle.runfile.proofs.AnswersFrom.{one-each, no-six}

@@ -10,7 +10,8 @@ use Rattle.names.specs.Step.{RawStep}
 use Rattle.names.specs.declared.Answer.{Answer}
 use Rattle.store.specs.Step.{advanced}
 use Rattle.store.specs.Run.{Store, advance, answersAdvancing}
-use Rattle.runfile.specs.Run.{isTaken, isRefused, takenOf, refusedOf}
+use Rattle.tally.specs.Tally.{isTaken}
+use Rattle.runfile.specs.Run.{isRefused, takenOf, refusedOf}
 use Rattle.runfile.specs.Stepwise.{storeAt, answerAt}
 
 module _ (step : ℕ → RawStep) (m : Store) where

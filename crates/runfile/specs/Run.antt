@@ -6,6 +6,7 @@ use lib.Dec.{eqb, ltb}
 use lib.ListN.{length}
 use Rattle.lists.specs.Filters.{filter}
 use Rattle.names.specs.declared.Answer.{Answer}
+use Rattle.tally.specs.Tally.{isTaken}
 use Rattle.claims.specs.Published.{begin}
 use Rattle.claims.specs.PublishedRun.{answersFrom}
 use Rattle.runfile.specs.declared.Answered.{Answered}
@@ -28,13 +29,9 @@ answerRefusal file out = cond (eqb (fileRefusal file) 0) (cond (ltb (length out)
 unfoldable pub answerOutput : List ℕ → List ℕ → List ℕ
 answerOutput file out = cond (eqb (answerRefusal file out) 0) (answered (answersIn file) out) out
 
--- "result (a byte, 0 taken, else the refusal)"
-unfoldable pub isTaken : ℕ → Bool
-isTaken result = eqb result 0
-
 -- "Every refusal of a step counts, 6 too."
 unfoldable pub isRefused : ℕ → Bool
-isRefused result = not (eqb result 0)
+isRefused result = not (isTaken result)
 
 -- "steps taken and steps refused"
 abbrev pub takenOf : List Answer → ℕ

@@ -1,4 +1,4 @@
-use Rattle.runfile.specs.Run.{isTaken}
+use Rattle.tally.specs.Tally.{isTaken}
 use borrow.Author.Needs.{needs}
 use Rattle.runfile.proofs.run.is_taken.Statement.{statement}
 use Rattle.runfile.proofs.run.is_taken.Tie as tie
