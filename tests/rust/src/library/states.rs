@@ -92,13 +92,13 @@ pub fn any(random: &mut Random) -> State {
             let to = random.byte(1, all);
             channel.outbox[card].push_back(message(random, &placement, to));
         }
+        let broadcasts = random.pick(&[0, 50, 100]);
         for _ in 0..queue(random, 48) {
-            let to = only(card)
-                | if random.percent(50) {
-                    random.byte(0, all)
-                } else {
-                    0
-                };
+            let others = match cards > 1 && random.percent(broadcasts) {
+                true => several(random, all),
+                false => 0,
+            };
+            let to = only(card) | others;
             channel.inbox[card].push_back(message(random, &placement, to));
         }
         for _ in 0..queue(random, 16) {
