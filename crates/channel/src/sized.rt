@@ -1,5 +1,5 @@
-// The check of the whole memory that refusal 6 for the state asks for. Tests are joined by `&`, with no early return: a proof then answers
-// for one way out, and the check takes half as long.
+// The check of the whole memory that refusal 6 for the state asks for. Tests are joined by `&`, with no early return: the proof then has one
+// way out to answer for.
 ghost use mathlib.Core.Path.{_≡_};
 ghost use Prim.Native.Nat.{_<_, _≤_, min};
 ghost use Rattle.lists.specs.Every.{each};
