@@ -1,6 +1,6 @@
 -- The numbers that document 01 gives to the channel's answers ("Who can cause which refusal"); 0 where the call is done.
 use Prim.Native.Nat.{ℕ}
-use mathlib.Core.Bool.{Bool, true, false}
+use mathlib.Core.Bool.{Bool, true, false, cond}
 use Rattle.channel.specs.declared.Answer.{Answer}
 use Rattle.channel.specs.declared.Answer.the-variants.{Done, BadSize, IllSized, NoTask, NoCard, NoBroadcast, NoneInFlight, FarBehind, Crowded}
 use Rattle.channel.specs.declared.Received.{Received}
@@ -32,3 +32,7 @@ isDone NoBroadcast = false
 isDone NoneInFlight = false
 isDone FarBehind = false
 isDone Crowded = false
+
+-- 6 where a queue is full
+abbrev pub unlessFull : Bool → Answer
+unlessFull full = cond full IllSized Done

@@ -10,8 +10,8 @@ use Rattle.names.specs.CardSet.{memberOf, several}
 use Rattle.names.specs.declared.Card.{Card}
 use Rattle.names.specs.declared.Letter.{Letter}
 use Rattle.channel.specs.declared.Answer.{Answer}
-use Rattle.channel.specs.declared.Answer.the-variants.{Done, IllSized, NoCard, NoBroadcast, Crowded}
-use Rattle.channel.specs.Answers.{isDone}
+use Rattle.channel.specs.declared.Answer.the-variants.{NoCard, NoBroadcast, Crowded}
+use Rattle.channel.specs.Answers.{isDone, unlessFull}
 use Rattle.channel.specs.Layout.{takenWord, heldWord, cardsOf, madeOf, takenOf, countOf, heldCountOf, placeOf, heldBlock, broadcastBlock}
 use Rattle.names.specs.Letters.{letterAt, tagAt, stored}
 use Rattle.channel.specs.Inbox.{pushed}
@@ -80,15 +80,23 @@ nextThere ws i = memberOf (nextLetter ws i .to) i
 unfoldable pub roomAnswer : List ℕ → ℕ → ℕ → Bool → Answer
 roomAnswer ws i n there =
     cond there
-    (cond (leb 32 (broadcastsOf ws i)) Crowded (cond (ltb 48 (countOf ws i + releasableOf ws i n + 1)) IllSized Done))
-    (cond (ltb 48 (countOf ws i + releasableOf ws i n)) IllSized Done)
+    (cond (leb 32 (broadcastsOf ws i)) Crowded (unlessFull (ltb 48 (countOf ws i + releasableOf ws i n + 1))))
+    (unlessFull (ltb 48 (countOf ws i + releasableOf ws i n)))
+
+-- card i takes broadcast n, where there is room
+abbrev pub nextAnswer : List ℕ → ℕ → ℕ → Answer
+nextAnswer ws i n = roomAnswer ws i n (memberOf (letterAt ws (broadcastBlock n) .to) i)
+
+abbrev pub nextMemory : List ℕ → ℕ → ℕ → List ℕ
+nextMemory ws i n =
+    cond (isDone (nextAnswer ws i n)) (joined ws i n (letterAt ws (broadcastBlock n)) (memberOf (letterAt ws (broadcastBlock n) .to) i)) ws
 
 -- 14 an absent card; 31 "no broadcast to take"
 unfoldable pub takeAnswer : List ℕ → Card → Answer
 takeAnswer ws card =
     cond (ltb (card .0) (cardsOf ws))
     (cond (ltb (takenOf ws (card .0)) (madeOf ws))
-    (roomAnswer ws (card .0) (takenOf ws (card .0) + 1) (nextThere ws (card .0)))
+    (nextAnswer ws (card .0) (takenOf ws (card .0) + 1))
     NoBroadcast)
     NoCard
 

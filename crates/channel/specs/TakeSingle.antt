@@ -8,8 +8,8 @@ use lib.ListN.{set}
 use Rattle.names.specs.declared.Task.{Task}
 use Rattle.names.specs.declared.Letter.{Letter}
 use Rattle.channel.specs.declared.Answer.{Answer}
-use Rattle.channel.specs.declared.Answer.the-variants.{Done, IllSized, NoTask, NoneInFlight}
-use Rattle.channel.specs.Answers.{isDone}
+use Rattle.channel.specs.declared.Answer.the-variants.{IllSized, NoTask, NoneInFlight}
+use Rattle.channel.specs.Answers.{isDone, unlessFull}
 use Rattle.channel.specs.Layout.{heldWord, tasksOf, takenOf, countOf, heldCountOf, heldBlock, flightBlock}
 use Rattle.names.specs.CardSet.{single, soleOf}
 use Rattle.names.specs.Letters.{letterAt, kindAt, tagAt, stored}
@@ -48,16 +48,24 @@ landed ws t i l tag joins =
 
 -- 6 "an inbox 48, and at most 16 messages are held"
 unfoldable pub landAnswer : List ℕ → ℕ → Bool → Answer
-landAnswer ws i joins = cond joins (cond (leb 48 (countOf ws i)) IllSized Done) (cond (leb 16 (heldCountOf ws i)) IllSized Done)
+landAnswer ws i joins = cond joins (unlessFull (leb 48 (countOf ws i))) (unlessFull (leb 16 (heldCountOf ws i)))
 
--- 12 an absent task; 32 "nothing of that task in flight"; 6 also where the slot's message has not one destination
+-- of task t's message in flight; 6 also where it has not one destination
+abbrev pub reachAnswer : List ℕ → ℕ → Answer
+reachAnswer ws t =
+    cond (single (flightLetter ws t .to)) (landAnswer ws (flightTo ws t) (joinsAt ws (flightTo ws t) (flightTag ws t))) IllSized
+
+abbrev pub reachMemory : List ℕ → ℕ → List ℕ
+reachMemory ws t =
+    cond (isDone (reachAnswer ws t))
+    (landed ws t (flightTo ws t) (flightLetter ws t) (flightTag ws t) (joinsAt ws (flightTo ws t) (flightTag ws t)))
+    ws
+
+-- 12 an absent task; 32 "nothing of that task in flight"
 unfoldable pub singleAnswer : List ℕ → Task → Answer
 singleAnswer ws task =
     cond (ltb (task .0) (tasksOf ws))
-    (cond (noFlight ws (task .0)) NoneInFlight
-    (cond (single (flightLetter ws (task .0) .to))
-    (landAnswer ws (flightTo ws (task .0)) (joinsAt ws (flightTo ws (task .0)) (flightTag ws (task .0))))
-    IllSized))
+    (cond (noFlight ws (task .0)) NoneInFlight (reachAnswer ws (task .0)))
     NoTask
 
 -- the new words where the step is done, else the old

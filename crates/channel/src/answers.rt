@@ -1,6 +1,6 @@
-// Tests on answers.
+// Tests on answers, and an answer by a test.
 ghost use mathlib.Core.Path.{_≡_};
-ghost use Rattle.channel.specs.Answers.{isDone};
+ghost use Rattle.channel.specs.Answers.{isDone, unlessFull};
 use crate::Answer;
 
 pub(crate) fn done(answer: Answer) -> bool
@@ -17,4 +17,14 @@ pub(crate) fn done(answer: Answer) -> bool
         Answer::FarBehind => false,
         Answer::Crowded => false,
     }
+}
+
+// 6 where a queue is full.
+pub(crate) fn unless_full(full: bool) -> Answer
+    ensures { λ r. ⌜ r ≡ unlessFull full ⌝ }
+{
+    if full {
+        return Answer::IllSized;
+    }
+    Answer::Done
 }

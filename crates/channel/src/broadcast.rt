@@ -2,8 +2,9 @@
 ghost use mathlib.Core.Path.{_≡_};
 ghost use lib.Dec.{leb};
 ghost use Prim.Native.Nat.{_<_, _≤_, _+_};
-ghost use Rattle.channel.specs.TakeBroadcast.{readyAt, releasableOf, broadcastAt, broadcastsOf, sweptWords, sweptKept, releasedWords, arrived, joined, roomAnswer, takeAnswer, takeMemory};
+ghost use Rattle.channel.specs.TakeBroadcast.{readyAt, releasableOf, broadcastAt, broadcastsOf, sweptWords, sweptKept, releasedWords, arrived, joined, roomAnswer, nextAnswer, nextMemory, takeAnswer, takeMemory};
 use super::answers::done;
+use super::answers::unless_full;
 use super::inbox::push;
 use super::layout::BLOCKS;
 use super::layout::COUNT;
@@ -169,15 +170,25 @@ fn room(memory: &[u32; 4808], i: usize, n: u32, there: bool) -> Answer
         if crowded(memory, i) {
             return Answer::Crowded;
         }
-        if 48 < count + 1 {
-            return Answer::IllSized;
-        }
-        return Answer::Done;
+        return unless_full(48 < count + 1);
     }
-    if 48 < count {
-        return Answer::IllSized;
+    unless_full(48 < count)
+}
+
+// Card i takes broadcast n, where there is room.
+fn take_next(memory: &mut [u32; 4808], i: usize, n: u32) -> Answer
+    requires { ⌜ i < 8 ⌝ }
+    ensures memory { λ _. ⌜ now (memory .exit) ≡ nextMemory (now (memory .entry)) i n ⌝ }
+    ensures answer { λ r. ⌜ r ≡ nextAnswer (now (memory .entry)) i n ⌝ }
+{
+    let letter = load(memory, RECENT + (n % 64) as usize);
+    let there = names::member(letter.to, Card(i as u32));
+    let answer = room(memory, i, n, there);
+    if done(answer) {
+        join(memory, i, n, letter, there);
+        return answer;
     }
-    Answer::Done
+    answer
 }
 
 // Step 7: the card takes the next broadcast.
@@ -194,13 +205,5 @@ pub fn take_broadcast(memory: &mut [u32; 4808], card: Card) -> Answer
     if made <= taken {
         return Answer::NoBroadcast;
     }
-    let next = after(taken, made);
-    let letter = load(memory, RECENT + (next % 64) as usize);
-    let there = names::member(letter.to, card);
-    let answer = room(memory, i, next, there);
-    if done(answer) {
-        join(memory, i, next, letter, there);
-        return answer;
-    }
-    answer
+    take_next(memory, i, after(taken, made))
 }

@@ -1,7 +1,7 @@
 // Where things lie in the channel's memory, its sizes, and its start.
 ghost use mathlib.Core.Path.{_≡_};
 ghost use Prim.Native.Nat.{_<_, _≤_, min};
-ghost use Rattle.channel.specs.Layout.{cardsOf, tasksOf, registersOf, madeOf, takenBy};
+ghost use Rattle.channel.specs.Layout.{cardsOf, tasksOf, registersOf, madeOf, takenOf, headOf, countOf, heldCountOf, takenBy};
 ghost use Rattle.channel.specs.Begin.{sizesFit, beginAnswer, beginMemory};
 use crate::Answer;
 use names::Card;
@@ -81,6 +81,35 @@ pub fn made(memory: &[u32; 4808]) -> u32
     ensures { λ r. ⌜ r ≡ madeOf (now (memory .entry)) ⌝ }
 {
     memory[MADE]
+}
+
+// Card i's own words.
+pub(crate) fn taken_of(memory: &[u32; 4808], i: usize) -> u32
+    requires { ⌜ i < 8 ⌝ }
+    ensures { λ r. ⌜ r ≡ takenOf (now (memory .entry)) i ⌝ }
+{
+    memory[FIRST + i * PART]
+}
+
+pub(crate) fn head_of(memory: &[u32; 4808], i: usize) -> u32
+    requires { ⌜ i < 8 ⌝ }
+    ensures { λ r. ⌜ r ≡ headOf (now (memory .entry)) i ⌝ }
+{
+    memory[FIRST + i * PART + HEAD]
+}
+
+pub(crate) fn count_of(memory: &[u32; 4808], i: usize) -> u32
+    requires { ⌜ i < 8 ⌝ }
+    ensures { λ r. ⌜ r ≡ countOf (now (memory .entry)) i ⌝ }
+{
+    memory[FIRST + i * PART + COUNT]
+}
+
+pub(crate) fn held_of(memory: &[u32; 4808], i: usize) -> u32
+    requires { ⌜ i < 8 ⌝ }
+    ensures { λ r. ⌜ r ≡ heldCountOf (now (memory .entry)) i ⌝ }
+{
+    memory[FIRST + i * PART + HELD]
 }
 
 // The number of broadcasts that a card has taken; 0 for an absent card.

@@ -1,8 +1,11 @@
 // Step 8: a task's message in flight reaches its destination.
 ghost use mathlib.Core.Path.{_≡_};
 ghost use Prim.Native.Nat.{_<_, _≤_};
-ghost use Rattle.channel.specs.TakeSingle.{noFlight, landed, landAnswer, singleAnswer, singleMemory};
+ghost use mathlib.Core.Bool.{true};
+ghost use Rattle.names.specs.CardSet.{single, soleOf};
+ghost use Rattle.channel.specs.TakeSingle.{noFlight, joinsAt, heldMore, landed, landAnswer, reachAnswer, reachMemory, singleAnswer, singleMemory};
 use super::answers::done;
+use super::answers::unless_full;
 use super::inbox::push;
 use super::layout::BLOCKS;
 use super::layout::COUNT;
@@ -27,6 +30,41 @@ pub(crate) fn no_flight(memory: &[u32; 4808], t: usize) -> bool
     memory[(FLIGHT + t) * 8] == 0
 }
 
+// The one destination of a message.
+fn destination(to: u32) -> usize
+    requires { ⌜ single to ≡ true ⌝ }
+    ensures { λ r. ⌜ (r ≡ soleOf to) × (r < 8) ⌝ }
+{
+    names::sole(to) as usize
+}
+
+// Whether a message with this tag joins card i's inbox, and is not held.
+fn joins_at(memory: &[u32; 4808], i: usize, tag: u32) -> bool
+    requires { ⌜ i < 8 ⌝ }
+    ensures { λ r. ⌜ r ≡ joinsAt (now (memory .entry)) i tag ⌝ }
+{
+    tag <= memory[FIRST + i * PART]
+}
+
+// One letter more among those held for card i; nothing changes where there is no room.
+fn hold(memory: &mut [u32; 4808], i: usize, letter: Letter, tag: u32)
+    requires { ⌜ i < 8 ⌝ }
+    ensures { λ _. ⌜ now (memory .exit) ≡ heldMore (now (memory .entry)) i letter tag ⌝ }
+{
+    let at = FIRST + i * PART + HELD;
+    let held = memory[at];
+    if 16 <= held {
+        return;
+    }
+    store(
+        memory,
+        KEPT + i * BLOCKS + held as usize,
+        letter,
+        BroadcastNumber(tag),
+    );
+    memory[at] = held + 1;
+}
+
 // Task t's message in flight reaches card i, where it joins the inbox or is held.
 fn land(memory: &mut [u32; 4808], t: usize, i: usize, letter: Letter, tag: u32, joins: bool)
     requires { ⌜ (t < 16) × (i < 8) ⌝ }
@@ -37,17 +75,7 @@ fn land(memory: &mut [u32; 4808], t: usize, i: usize, letter: Letter, tag: u32, 
         push(memory, i, letter);
         return;
     }
-    let held = memory[FIRST + i * PART + HELD];
-    if 16 <= held {
-        return;
-    }
-    store(
-        memory,
-        KEPT + i * BLOCKS + held as usize,
-        letter,
-        BroadcastNumber(tag),
-    );
-    memory[FIRST + i * PART + HELD] = held + 1;
+    hold(memory, i, letter, tag);
 }
 
 // Whether card i has room for a message that joins its inbox, or is held.
@@ -56,15 +84,30 @@ fn may_land(memory: &[u32; 4808], i: usize, joins: bool) -> Answer
     ensures { λ r. ⌜ r ≡ landAnswer (now (memory .entry)) i joins ⌝ }
 {
     if joins {
-        if 48 <= memory[FIRST + i * PART + COUNT] {
-            return Answer::IllSized;
-        }
-        return Answer::Done;
+        return unless_full(48 <= memory[FIRST + i * PART + COUNT]);
     }
-    if 16 <= memory[FIRST + i * PART + HELD] {
+    unless_full(16 <= memory[FIRST + i * PART + HELD])
+}
+
+// Task t's message in flight reaches its destination, where there is room.
+fn reach(memory: &mut [u32; 4808], t: usize) -> Answer
+    requires { ⌜ t < 16 ⌝ }
+    ensures memory { λ _. ⌜ now (memory .exit) ≡ reachMemory (now (memory .entry)) t ⌝ }
+    ensures answer { λ r. ⌜ r ≡ reachAnswer (now (memory .entry)) t ⌝ }
+{
+    let letter = load(memory, FLIGHT + t);
+    if !names::single(letter.to) {
         return Answer::IllSized;
     }
-    Answer::Done
+    let tag = memory[(FLIGHT + t) * 8 + 7];
+    let i = destination(letter.to);
+    let joins = joins_at(memory, i, tag);
+    let answer = may_land(memory, i, joins);
+    if done(answer) {
+        land(memory, t, i, letter, tag, joins);
+        return answer;
+    }
+    answer
 }
 
 // Step 8: the task's message in flight reaches its destination.
@@ -79,17 +122,5 @@ pub fn take_single(memory: &mut [u32; 4808], task: Task) -> Answer
     if no_flight(memory, t) {
         return Answer::NoneInFlight;
     }
-    let letter = load(memory, FLIGHT + t);
-    let tag = memory[(FLIGHT + t) * 8 + 7];
-    if !names::single(letter.to) {
-        return Answer::IllSized;
-    }
-    let i = names::sole(letter.to) as usize;
-    let joins = tag <= memory[FIRST + i * PART];
-    let answer = may_land(memory, i, joins);
-    if done(answer) {
-        land(memory, t, i, letter, tag, joins);
-        return answer;
-    }
-    answer
+    reach(memory, t)
 }

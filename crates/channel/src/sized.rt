@@ -1,5 +1,5 @@
-// The check of the whole memory that refusal 6 for the state asks for. Tests are joined by `&`, with no early return: a proof then answers
-// for one way out, and the check takes half as long.
+// The check of the whole memory that refusal 6 for the state asks for. Tests are joined by `&`, with no early return: the proof then has one
+// way out to answer for.
 ghost use mathlib.Core.Path.{_≡_};
 ghost use Prim.Native.Nat.{_<_, _≤_, min};
 ghost use Rattle.lists.specs.Every.{each};
@@ -21,7 +21,11 @@ use super::layout::REGISTERS;
 use super::layout::TASKS;
 use super::layout::capped;
 use super::layout::cards;
+use super::layout::count_of;
+use super::layout::head_of;
+use super::layout::held_of;
 use super::layout::sizes_fit;
+use super::layout::taken_of;
 use super::layout::tasks;
 use super::layout::wide;
 use super::letters::fits;
@@ -88,13 +92,13 @@ fn counts_fit(memory: &[u32; 4808], i: usize) -> bool
     requires { ⌜ i < 8 ⌝ }
     ensures { λ r. ⌜ r ≡ countsFit (now (memory .entry)) i ⌝ }
 {
-    let at = FIRST + i * PART;
-    let taken = wide(memory[at]);
+    let taken = wide(taken_of(memory, i));
     let made = wide(memory[MADE]);
-    let head = memory[at + HEAD];
-    let count = memory[at + COUNT];
-    let held = memory[at + HELD];
-    (taken <= made) & (made <= taken + 64) & (head < 48) & (count <= 48) & (held <= 16)
+    (taken <= made)
+        & (made <= taken + 64)
+        & (head_of(memory, i) < 48)
+        & (count_of(memory, i) <= 48)
+        & (held_of(memory, i) <= 16)
 }
 
 // Whether card i's inbox is in order.

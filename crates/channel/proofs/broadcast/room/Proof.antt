@@ -1,7 +1,6 @@
 use mathlib.Core.Path.{sym, _∙_}
-use borrow.Author.Needs.{needs}
-use borrow.Author.Tests.{lt-ltb, le-ltb}
 use Rattle.channel.specs.TakeBroadcast.{roomAnswer}
+use borrow.Author.Needs.{needs}
 use Rattle.channel.proofs.broadcast.room.Statement.{statement}
 use Rattle.channel.proofs.broadcast.room.Tie as tie
 
@@ -36,24 +35,39 @@ returns : tie.Need-returns
 unfolding roomAnswer
 returns c = simp (c .before .before .if1 .taken, sym (c .before .crowded .ensures) ∙ c .if2 .taken)
 
-add-if3 : tie.Need-add-if3
-add-if3 c = search needs
+add-unless-full : tie.Need-add-unless-full
+add-unless-full c = search needs
+
+unless-full-requires : tie.Need-unless-full-requires
+unless-full-requires c κs = search needs
 
 returns-2 : tie.Need-returns-2
 unfolding roomAnswer
-returns-2 c = simp (c .before .before .before .if1 .taken, sym (c .before .before .crowded .ensures) ∙ c .before .if2 .left, ← (c .before .before .before .before .before .wide .ensures .0), ← (c .before .before .before .before .releasable .ensures .0), lt-ltb _ _ (c .if3 .taken))
+returns-2 c = simp (c .before .before .before .if1 .taken, sym (c .before .before .crowded .ensures) ∙ c .before .if2 .left, ← (c .before .before .before .before .before .wide .ensures .0), ← (c .before .before .before .before .releasable .ensures .0)) (c .unless-full .ensures)
+
+unless-full-requires-2 : tie.Need-unless-full-requires-2
+unless-full-requires-2 c κs = search needs
 
 returns-3 : tie.Need-returns-3
 unfolding roomAnswer
-returns-3 c = simp (c .before .before .before .if1 .taken, sym (c .before .before .crowded .ensures) ∙ c .before .if2 .left, ← (c .before .before .before .before .before .wide .ensures .0), ← (c .before .before .before .before .releasable .ensures .0), le-ltb _ _ (c .if3 .left))
-
-returns-4 : tie.Need-returns-4
-unfolding roomAnswer
-returns-4 c = simp (c .before .if1 .left, ← (c .before .before .before .wide .ensures .0), ← (c .before .before .releasable .ensures .0), lt-ltb _ _ (c .if4 .taken))
-
-returns-5 : tie.Need-returns-5
-unfolding roomAnswer
-returns-5 c = simp (c .before .if1 .left, ← (c .before .before .before .wide .ensures .0), ← (c .before .before .releasable .ensures .0), le-ltb _ _ (c .if4 .left))
+returns-3 c = simp (c .before .if1 .left, ← (c .before .before .before .wide .ensures .0), ← (c .before .before .releasable .ensures .0)) (c .unless-full2 .ensures)
 
 pub room-spec : {M : Type 1} → statement M
-room-spec = tie.close (tie.spec mul-wide add-wide add-wide-2 mul-wide-2 element-copy-out-wide wide-requires releasable-requires add-count crowded-requires returns add-if3 returns-2 returns-3 returns-4 returns-5)
+room-spec =
+    tie.close
+    (tie.spec
+    mul-wide
+    add-wide
+    add-wide-2
+    mul-wide-2
+    element-copy-out-wide
+    wide-requires
+    releasable-requires
+    add-count
+    crowded-requires
+    returns
+    add-unless-full
+    unless-full-requires
+    returns-2
+    unless-full-requires-2
+    returns-3)

@@ -1,70 +1,67 @@
-use borrow.Author.Needs.{needs}
-use borrow.Author.Tests.{le-leb, lt-leb}
 use Rattle.channel.specs.TakeSingle.{landAnswer}
+use borrow.Author.Needs.{needs}
 use Rattle.channel.proofs.single.may_land.Statement.{statement}
 use Rattle.channel.proofs.single.may_land.Tie as tie
 
-mul-if2 : tie.Need-mul-if2
-mul-if2 c = search needs
+mul-unless-full : tie.Need-mul-unless-full
+mul-unless-full c = search needs
 
-add-if2 : tie.Need-add-if2
-add-if2 c = search needs
+add-unless-full : tie.Need-add-unless-full
+add-unless-full c = search needs
 
-add-if2-2 : tie.Need-add-if2-2
-add-if2-2 c = search needs
+add-unless-full-2 : tie.Need-add-unless-full-2
+add-unless-full-2 c = search needs
 
-mul-if2-2 : tie.Need-mul-if2-2
-mul-if2-2 c = search needs
+mul-unless-full-2 : tie.Need-mul-unless-full-2
+mul-unless-full-2 c = search needs
 
-element-copy-out-if2 : tie.Need-element-copy-out-if2
-element-copy-out-if2 c = search needs
+element-copy-out-unless-full : tie.Need-element-copy-out-unless-full
+element-copy-out-unless-full c = search needs
+
+unless-full-requires : tie.Need-unless-full-requires
+unless-full-requires c κs = search needs
 
 returns : tie.Need-returns
 unfolding landAnswer
-returns c = simp (c .before .before .if1 .taken, le-leb _ _ (c .if2 .taken))
+returns c = rw (c .before .before .if1 .taken) (c .unless-full .ensures)
+
+mul-unless-full-3 : tie.Need-mul-unless-full-3
+mul-unless-full-3 c = search needs
+
+add-unless-full-3 : tie.Need-add-unless-full-3
+add-unless-full-3 c = search needs
+
+add-unless-full-4 : tie.Need-add-unless-full-4
+add-unless-full-4 c = search needs
+
+mul-unless-full-4 : tie.Need-mul-unless-full-4
+mul-unless-full-4 c = search needs
+
+element-copy-out-unless-full-2 : tie.Need-element-copy-out-unless-full-2
+element-copy-out-unless-full-2 c = search needs
+
+unless-full-requires-2 : tie.Need-unless-full-requires-2
+unless-full-requires-2 c κs = search needs
 
 returns-2 : tie.Need-returns-2
 unfolding landAnswer
-returns-2 c = simp (c .before .before .if1 .taken, lt-leb _ _ (c .if2 .left))
-
-mul-if3 : tie.Need-mul-if3
-mul-if3 c = search needs
-
-add-if3 : tie.Need-add-if3
-add-if3 c = search needs
-
-add-if3-2 : tie.Need-add-if3-2
-add-if3-2 c = search needs
-
-mul-if3-2 : tie.Need-mul-if3-2
-mul-if3-2 c = search needs
-
-element-copy-out-if3 : tie.Need-element-copy-out-if3
-element-copy-out-if3 c = search needs
-
-returns-3 : tie.Need-returns-3
-unfolding landAnswer
-returns-3 c = simp (c .before .before .if1 .left, le-leb _ _ (c .if3 .taken))
-
-returns-4 : tie.Need-returns-4
-unfolding landAnswer
-returns-4 c = simp (c .before .before .if1 .left, lt-leb _ _ (c .if3 .left))
+returns-2 c = rw (c .before .before .if1 .left) (c .unless-full2 .ensures)
 
 pub may-land-spec : {M : Type 1} → statement M
 may-land-spec =
     tie.close
     (tie.spec
-    mul-if2
-    add-if2
-    add-if2-2
-    mul-if2-2
-    element-copy-out-if2
+    mul-unless-full
+    add-unless-full
+    add-unless-full-2
+    mul-unless-full-2
+    element-copy-out-unless-full
+    unless-full-requires
     returns
-    returns-2
-    mul-if3
-    add-if3
-    add-if3-2
-    mul-if3-2
-    element-copy-out-if3
-    returns-3
-    returns-4)
+    mul-unless-full-3
+    add-unless-full-3
+    add-unless-full-4
+    mul-unless-full-4
+    element-copy-out-unless-full-2
+    unless-full-requires-2
+    returns-2)
