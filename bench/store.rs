@@ -1,7 +1,8 @@
 //! The proved store and the model in plain Rust on the same guided files of 4,096 steps, in one run:
 //!   rt staticlib firmware && cargo run --release --offline --manifest-path bench/Cargo.toml
 //! Processor time, medians of rounds taken in turn. Every round begins from a new state; outputs are
-//! not cleared between rounds. The model is ordinary Rust (Vec, VecDeque), not tuned.
+//! not cleared between rounds. The model is ordinary Rust (Vec, VecDeque), not tuned: `bare` is what
+//! its steps alone take of a whole run, without reading the file and writing the answer.
 
 use std::hint::black_box;
 
@@ -69,43 +70,68 @@ fn steps(run: &Run) -> (f64, f64) {
     let mut state = State::start(run.placement.clone()).expect("an accepted placement");
     let (proved, first) = timed(|| {
         let steps = run.steps.iter();
-        steps.map(|&(code, argument)| store.step(code, argument)).fold(0, sum)
+        steps
+            .map(|&(code, argument)| store.step(code, argument))
+            .fold(0, sum)
     });
     let (plain, second) = timed(|| {
         let steps = run.steps.iter();
-        steps.map(|&(code, argument)| state.step(code, argument)).fold(0, sum)
+        steps
+            .map(|&(code, argument)| state.step(code, argument))
+            .fold(0, sum)
     });
     assert_eq!(first, second);
     (proved, plain)
 }
 
+/// The model's steps one by one, with no check of the state.
+fn bare(run: &Run) -> f64 {
+    let mut state = State::start(run.placement.clone()).expect("an accepted placement");
+    let steps = run.steps.iter();
+    timed(|| {
+        steps
+            .map(|&(code, argument)| state.step_reached(code, argument))
+            .fold(0, sum)
+    })
+    .0
+}
+
 fn sum(total: u32, (result, value): (u8, u32)) -> u32 {
-    total.wrapping_mul(31).wrapping_add(result as u32).wrapping_add(value)
+    total
+        .wrapping_mul(31)
+        .wrapping_add(result as u32)
+        .wrapping_add(value)
 }
 
 fn main() {
     let mut ratios = Vec::new();
-    println!("nanoseconds a step; a file, then in turn: whole run and checked steps, proved, plain, ratio");
+    println!("nanoseconds a step");
+    println!("file  taken | whole run: proved  plain  ratio   bare | checked steps: proved  plain  ratio");
     for (number, file) in files().into_iter().enumerate() {
         let run = Run::read(&file).expect("an accepted file");
-        let mut times = [const { Vec::new() }; 4];
+        let mut times = [const { Vec::new() }; 5];
         let mut taken = 0;
         let (mut output, mut wanted) = (vec![0; 2 + 5 * STEPS], vec![0; 2 + 5 * STEPS]);
         for _ in 0..ROUNDS {
             let mut tally = Tally::default();
             let (proved, refusal) = timed(|| gondzselu::answer(black_box(&file), &mut output));
-            let (plain, expected) = timed(|| answer_into(black_box(&file), &mut wanted, &mut tally));
+            let (plain, expected) =
+                timed(|| answer_into(black_box(&file), &mut wanted, &mut tally));
             assert_eq!((refusal, &output), (expected, &wanted));
             taken = tally.taken;
             let (proved_steps, plain_steps) = steps(&run);
-            for (times, time) in times.iter_mut().zip([proved, plain, proved_steps, plain_steps]) {
+            for (times, time) in
+                times
+                    .iter_mut()
+                    .zip([proved, plain, proved_steps, plain_steps, bare(&run)])
+            {
                 times.push(time / STEPS as f64);
             }
         }
-        let [proved, plain, proved_steps, plain_steps] = times.map(median);
+        let [proved, plain, proved_steps, plain_steps, bare] = times.map(median);
         let ratio = proved / plain;
         println!(
-            "{number}: {taken} taken; {proved:6.1} {plain:6.1} {ratio:5.2}; {proved_steps:7.1} {plain_steps:7.1} {:5.2}",
+            "{number:>4} {taken:>6} | {proved:>17.1} {plain:>6.1} {ratio:>6.2} {bare:>6.1} | {proved_steps:>21.1} {plain_steps:>6.1} {:>6.2}",
             proved_steps / plain_steps
         );
         ratios.push(ratio);
