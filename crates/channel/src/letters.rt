@@ -1,7 +1,7 @@
 // Letters in blocks of eight words: kind, task, register, function, value, sender, destinations, tag.
 ghost use mathlib.Core.Path.{_≡_};
 ghost use Prim.Native.Nat.{_<_, _≤_};
-ghost use Rattle.names.specs.Letters.{letterAt, stored};
+ghost use Rattle.names.specs.Letters.{letterAt, kindAt, tagAt, stored};
 ghost use Rattle.channel.specs.Letters.{addressed, fits};
 use super::layout::cards;
 use super::layout::registers;
@@ -12,6 +12,28 @@ use names::Letter;
 use names::Message;
 use names::Register;
 use names::Task;
+
+// The kind, the destinations and the tag in a block.
+pub(crate) fn kind_at(memory: &[u32; 4808], block: usize) -> u32
+    requires { ⌜ block < 601 ⌝ }
+    ensures { λ r. ⌜ r ≡ kindAt (now (memory .entry)) block ⌝ }
+{
+    memory[block * 8]
+}
+
+pub(crate) fn to_at(memory: &[u32; 4808], block: usize) -> u32
+    requires { ⌜ block < 601 ⌝ }
+    ensures { λ r. ⌜ r ≡ letterAt (now (memory .entry)) block .to ⌝ }
+{
+    memory[block * 8 + 6]
+}
+
+pub(crate) fn tag_at(memory: &[u32; 4808], block: usize) -> u32
+    requires { ⌜ block < 601 ⌝ }
+    ensures { λ r. ⌜ r ≡ tagAt (now (memory .entry)) block ⌝ }
+{
+    memory[block * 8 + 7]
+}
 
 // The letter in a block.
 pub(crate) fn load(memory: &[u32; 4808], block: usize) -> Letter
