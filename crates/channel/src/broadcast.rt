@@ -6,21 +6,23 @@ ghost use Rattle.channel.specs.TakeBroadcast.{readyAt, releasableOf, bro
 use super::answers::done;
 use super::answers::unless_full;
 use super::inbox::push;
-use super::layout::BLOCKS;
 use super::layout::COUNT;
 use super::layout::FIRST;
-use super::layout::HEAD;
 use super::layout::HELD;
-use super::layout::INBOX;
-use super::layout::KEPT;
 use super::layout::MADE;
 use super::layout::PART;
 use super::layout::RECENT;
 use super::layout::capped;
 use super::layout::cards;
+use super::layout::count_of;
+use super::layout::held_block;
+use super::layout::place_of;
+use super::layout::taken_of;
 use super::layout::wide;
 use super::letters::load;
 use super::letters::store;
+use super::letters::tag_at;
+use super::letters::to_at;
 use crate::Answer;
 use names::BroadcastNumber;
 use names::Card;
@@ -31,8 +33,7 @@ fn ready(memory: &[u32; 4808], i: usize, n: u32, k: usize) -> usize
     requires { ⌜ (i < 8) × (k < 16) ⌝ }
     ensures { λ r. ⌜ (r ≡ readyAt (now (memory .entry)) i n k) × (r ≤ 1) ⌝ }
 {
-    let at = (KEPT + i * BLOCKS + k) * 8 + 7;
-    let tag = memory[at];
+    let tag = tag_at(memory, held_block(i, k));
     if tag == n {
         return 1;
     }
@@ -60,19 +61,14 @@ fn sweep(memory: &mut [u32; 4808], i: usize, n: u32, k: usize, kept: usize) -> u
     ensures memory { λ _. ⌜ now (memory .exit) ≡ sweptWords i n k (now (memory .entry)) kept ⌝ }
     ensures kept { λ r. ⌜ (r ≡ sweptKept i n k (now (memory .entry)) kept) × (r ≤ kept + 1) ⌝ }
 {
-    let block = KEPT + i * BLOCKS + k;
+    let block = held_block(i, k);
     let letter = load(memory, block);
-    let mark = memory[block * 8 + 7];
+    let mark = tag_at(memory, block);
     if mark == n {
         push(memory, i, letter);
         return kept;
     }
-    store(
-        memory,
-        KEPT + i * BLOCKS + kept,
-        letter,
-        BroadcastNumber(mark),
-    );
+    store(memory, held_block(i, kept), letter, BroadcastNumber(mark));
     kept + 1
 }
 
@@ -96,9 +92,7 @@ fn broadcast_at(memory: &[u32; 4808], i: usize, k: u32) -> usize
     requires { ⌜ (i < 8) × (k < 48) ⌝ }
     ensures { λ r. ⌜ (r ≡ broadcastAt (now (memory .entry)) i k) × (r ≤ 1) ⌝ }
 {
-    let head = memory[FIRST + i * PART + HEAD];
-    let block = INBOX + i * BLOCKS + ((head % 48 + k) % 48) as usize;
-    if names::several(memory[block * 8 + 6]) {
+    if names::several(to_at(memory, place_of(memory, i, k))) {
         return 1;
     }
     0
@@ -124,7 +118,7 @@ fn crowded(memory: &[u32; 4808], i: usize) -> bool
     requires { ⌜ i < 8 ⌝ }
     ensures { λ r. ⌜ r ≡ leb 32 (broadcastsOf (now (memory .entry)) i) ⌝ }
 {
-    if memory[FIRST + i * PART + COUNT] < 32 {
+    if count_of(memory, i) < 32 {
         return false;
     }
     32 <= broadcasts(memory, i)
@@ -165,7 +159,7 @@ fn room(memory: &[u32; 4808], i: usize, n: u32, there: bool) -> Answer
     requires { ⌜ i < 8 ⌝ }
     ensures { λ r. ⌜ r ≡ roomAnswer (now (memory .entry)) i n there ⌝ }
 {
-    let count = wide(memory[FIRST + i * PART + COUNT]) + releasable(memory, i, n);
+    let count = wide(count_of(memory, i)) + releasable(memory, i, n);
     if there {
         if crowded(memory, i) {
             return Answer::Crowded;
@@ -200,7 +194,7 @@ pub fn take_broadcast(memory: &mut [u32; 4808], card: Card) -> Answer
         return Answer::NoCard;
     }
     let i = card.0 as usize;
-    let taken = memory[FIRST + i * PART];
+    let taken = taken_of(memory, i);
     let made = memory[MADE];
     if made <= taken {
         return Answer::NoBroadcast;

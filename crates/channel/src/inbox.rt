@@ -9,6 +9,9 @@ use super::layout::HEAD;
 use super::layout::INBOX;
 use super::layout::PART;
 use super::layout::cards;
+use super::layout::count_of;
+use super::layout::head_of;
+use super::layout::place_of;
 use super::letters::load;
 use super::letters::store;
 use crate::Received;
@@ -21,15 +24,17 @@ pub(crate) fn push(memory: &mut [u32; 4808], i: usize, letter: Letter)
     requires { ⌜ i < 8 ⌝ }
     ensures { λ _. ⌜ now (memory .exit) ≡ pushed (now (memory .entry)) i letter ⌝ }
 {
-    let at = FIRST + i * PART;
-    let head = memory[at + HEAD];
-    let count = memory[at + COUNT];
+    let count = count_of(memory, i);
     if 48 <= count {
         return;
     }
-    let block = INBOX + i * BLOCKS + ((head % 48 + count) % 48) as usize;
-    store(memory, block, letter, BroadcastNumber(0));
-    memory[at + COUNT] = count + 1;
+    store(
+        memory,
+        place_of(memory, i, count),
+        letter,
+        BroadcastNumber(0),
+    );
+    memory[FIRST + i * PART + COUNT] = count + 1;
 }
 
 // The message of the first letter of a card's inbox.
@@ -37,34 +42,39 @@ fn first(memory: &[u32; 4808], i: usize) -> Received
     requires { ⌜ i < 8 ⌝ }
     ensures { λ r. ⌜ r ≡ gotOf (now (memory .entry)) i ⌝ }
 {
-    let at = FIRST + i * PART;
-    let head = memory[at + HEAD];
-    if memory[at + COUNT] == 0 {
+    if count_of(memory, i) == 0 {
         return Received::Empty;
     }
-    let letter = load(memory, INBOX + i * BLOCKS + (head % 48) as usize);
+    let first = head_of(memory, i) % 48;
+    let letter = load(memory, INBOX + i * BLOCKS + first as usize);
     let message = letter.message;
     Received::Got(message)
 }
 
-// The first letter of a card's inbox leaves it.
+// The first letter of a card's inbox leaves it, where there is one.
+fn drop_first(memory: &mut [u32; 4808], i: usize)
+    requires { ⌜ i < 8 ⌝ }
+    ensures { λ _. ⌜ now (memory .exit) ≡ popped (now (memory .entry)) i ⌝ }
+{
+    let head = head_of(memory, i);
+    let count = count_of(memory, i);
+    if count == 0 {
+        return;
+    }
+    let at = FIRST + i * PART;
+    memory[at + HEAD] = (head % 48 + 1) % 48;
+    memory[at + COUNT] = count - 1;
+}
+
+// The first letter of a card's inbox leaves it, and its message is handed up.
 fn pop(memory: &mut [u32; 4808], i: usize) -> Received
     requires { ⌜ i < 8 ⌝ }
     ensures left { λ _. ⌜ now (memory .exit) ≡ popped (now (memory .entry)) i ⌝ }
     ensures got { λ r. ⌜ r ≡ gotOf (now (memory .entry)) i ⌝ }
 {
-    let at = FIRST + i * PART;
-    let head = memory[at + HEAD];
-    let count = memory[at + COUNT];
-    if count == 0 {
-        return Received::Empty;
-    }
-    let first = head % 48;
-    let letter = load(memory, INBOX + i * BLOCKS + first as usize);
-    memory[at + HEAD] = (first + 1) % 48;
-    memory[at + COUNT] = count - 1;
-    let message = letter.message;
-    Received::Got(message)
+    let got = first(memory, i);
+    drop_first(memory, i);
+    got
 }
 
 // The message at the head of a card's inbox, which stays there: what `receive` would hand up.

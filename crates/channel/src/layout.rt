@@ -1,7 +1,7 @@
 // Where things lie in the channel's memory, its sizes, and its start.
 ghost use mathlib.Core.Path.{_≡_};
 ghost use Prim.Native.Nat.{_<_, _≤_, min};
-ghost use Rattle.channel.specs.Layout.{cardsOf, tasksOf, registersOf, madeOf, takenOf, headOf, countOf, heldCountOf, takenBy};
+ghost use Rattle.channel.specs.Layout.{cardsOf, tasksOf, registersOf, madeOf, takenOf, headOf, countOf, heldCountOf, placeOf, heldBlock, takenBy};
 ghost use Rattle.channel.specs.Begin.{sizesFit, beginAnswer, beginMemory};
 use crate::Answer;
 use names::Card;
@@ -110,6 +110,22 @@ pub(crate) fn held_of(memory: &[u32; 4808], i: usize) -> u32
     ensures { λ r. ⌜ r ≡ heldCountOf (now (memory .entry)) i ⌝ }
 {
     memory[FIRST + i * PART + HELD]
+}
+
+// The block of place k of card i's inbox, oldest first.
+pub(crate) fn place_of(memory: &[u32; 4808], i: usize, k: u32) -> usize
+    requires { ⌜ (i < 8) × (k < 48) ⌝ }
+    ensures { λ r. ⌜ (r ≡ placeOf (now (memory .entry)) i k) × (r < 601) ⌝ }
+{
+    INBOX + i * BLOCKS + ((head_of(memory, i) % 48 + k) % 48) as usize
+}
+
+// The block of place k of what is held for card i.
+pub(crate) fn held_block(i: usize, k: usize) -> usize
+    requires { ⌜ (i < 8) × (k < 16) ⌝ }
+    ensures { λ r. ⌜ (r ≡ heldBlock i k) × (r < 601) ⌝ }
+{
+    KEPT + i * BLOCKS + k
 }
 
 // The number of broadcasts that a card has taken; 0 for an absent card.

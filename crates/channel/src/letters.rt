@@ -1,13 +1,35 @@
 // Letters in the blocks of the memory, and what of a letter is past its limit.
 ghost use mathlib.Core.Path.{_≡_};
 ghost use Prim.Native.Nat.{_<_, _≤_};
-ghost use Rattle.names.specs.Letters.{letterAt, stored};
+ghost use Rattle.names.specs.Letters.{letterAt, kindAt, tagAt, stored};
 ghost use Rattle.channel.specs.Letters.{addressed, fits};
 use super::layout::cards;
 use super::layout::registers;
 use super::layout::tasks;
 use names::BroadcastNumber;
 use names::Letter;
+
+// The kind, the destinations and the tag in a block.
+pub(crate) fn kind_at(memory: &[u32; 4808], block: usize) -> u32
+    requires { ⌜ block < 601 ⌝ }
+    ensures { λ r. ⌜ r ≡ kindAt (now (memory .entry)) block ⌝ }
+{
+    memory[block * 8]
+}
+
+pub(crate) fn to_at(memory: &[u32; 4808], block: usize) -> u32
+    requires { ⌜ block < 601 ⌝ }
+    ensures { λ r. ⌜ r ≡ letterAt (now (memory .entry)) block .to ⌝ }
+{
+    memory[block * 8 + 6]
+}
+
+pub(crate) fn tag_at(memory: &[u32; 4808], block: usize) -> u32
+    requires { ⌜ block < 601 ⌝ }
+    ensures { λ r. ⌜ r ≡ tagAt (now (memory .entry)) block ⌝ }
+{
+    memory[block * 8 + 7]
+}
 
 // The letter in a block.
 pub(crate) fn load(memory: &[u32; 4808], block: usize) -> Letter

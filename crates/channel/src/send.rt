@@ -2,12 +2,11 @@
 ghost use mathlib.Core.Path.{_≡_};
 ghost use Prim.Native.Nat.{_<_, _≤_};
 ghost use Rattle.channel.specs.Dispatch.{nearAt, near, castAnswer, castMemory, flyAnswer, flyMemory, dispatchAnswer, dispatchMemory};
-use super::layout::FIRST;
 use super::layout::FLIGHT;
 use super::layout::MADE;
-use super::layout::PART;
 use super::layout::RECENT;
 use super::layout::cards;
+use super::layout::taken_of;
 use super::layout::wide;
 use super::letters::fits;
 use super::letters::store;
@@ -23,7 +22,7 @@ fn near_at(memory: &[u32; 4808], i: usize) -> bool
     requires { ⌜ i < 8 ⌝ }
     ensures { λ r. ⌜ r ≡ nearAt (now (memory .entry)) i ⌝ }
 {
-    let taken = wide(memory[FIRST + i * PART]);
+    let taken = wide(taken_of(memory, i));
     let made = wide(memory[MADE]);
     made + 1 <= taken + 64
 }
@@ -83,7 +82,7 @@ fn fly(memory: &mut [u32; 4808], i: usize, letter: Letter) -> Answer
     if !no_flight(memory, t) {
         return Answer::IllSized;
     }
-    let tag = memory[FIRST + i * PART];
+    let tag = taken_of(memory, i);
     store(memory, FLIGHT + t, letter, BroadcastNumber(tag));
     Answer::Done
 }

@@ -7,16 +7,17 @@ ghost use Rattle.channel.specs.TakeSingle.{noFlight, joinsAt, heldMore, 
 use super::answers::done;
 use super::answers::unless_full;
 use super::inbox::push;
-use super::layout::BLOCKS;
-use super::layout::COUNT;
 use super::layout::FIRST;
 use super::layout::FLIGHT;
 use super::layout::HELD;
-use super::layout::KEPT;
 use super::layout::PART;
+use super::layout::count_of;
+use super::layout::held_block;
+use super::layout::held_of;
 use super::layout::tasks;
 use super::letters::load;
 use super::letters::store;
+use super::letters::tag_at;
 use crate::Answer;
 use names::BroadcastNumber;
 use names::Letter;
@@ -51,18 +52,17 @@ fn hold(memory: &mut [u32; 4808], i: usize, letter: Letter, tag: u32)
     requires { ⌜ i < 8 ⌝ }
     ensures { λ _. ⌜ now (memory .exit) ≡ heldMore (now (memory .entry)) i letter tag ⌝ }
 {
-    let at = FIRST + i * PART + HELD;
-    let held = memory[at];
+    let held = held_of(memory, i);
     if 16 <= held {
         return;
     }
     store(
         memory,
-        KEPT + i * BLOCKS + held as usize,
+        held_block(i, held as usize),
         letter,
         BroadcastNumber(tag),
     );
-    memory[at] = held + 1;
+    memory[FIRST + i * PART + HELD] = held + 1;
 }
 
 // Task t's message in flight reaches card i, where it joins the inbox or is held.
@@ -84,9 +84,9 @@ fn may_land(memory: &[u32; 4808], i: usize, joins: bool) -> Answer
     ensures { λ r. ⌜ r ≡ landAnswer (now (memory .entry)) i joins ⌝ }
 {
     if joins {
-        return unless_full(48 <= memory[FIRST + i * PART + COUNT]);
+        return unless_full(48 <= count_of(memory, i));
     }
-    unless_full(16 <= memory[FIRST + i * PART + HELD])
+    unless_full(16 <= held_of(memory, i))
 }
 
 // Task t's message in flight reaches its destination, where there is room.
@@ -99,7 +99,7 @@ fn reach(memory: &mut [u32; 4808], t: usize) -> Answer
     if !names::single(letter.to) {
         return Answer::IllSized;
     }
-    let tag = memory[(FLIGHT + t) * 8 + 7];
+    let tag = tag_at(memory, FLIGHT + t);
     let i = destination(letter.to);
     let joins = joins_at(memory, i, tag);
     let answer = may_land(memory, i, joins);

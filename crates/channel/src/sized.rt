@@ -5,15 +5,11 @@ ghost use Prim.Native.Nat.{_<_, _≤_, min};
 ghost use Rattle.lists.specs.Every.{each};
 ghost use Rattle.channel.specs.Layout.{cardsOf, tasksOf, madeOf, countOf, heldCountOf};
 ghost use Rattle.channel.specs.Sized.{blockFits, inboxFits, heldFits, flightFits, broadcastFits, countsFit, cardFits, recentFits, headFits, wellSized};
-use super::layout::BLOCKS;
 use super::layout::CARDS;
 use super::layout::COUNT;
 use super::layout::FIRST;
 use super::layout::FLIGHT;
-use super::layout::HEAD;
 use super::layout::HELD;
-use super::layout::INBOX;
-use super::layout::KEPT;
 use super::layout::MADE;
 use super::layout::PART;
 use super::layout::RECENT;
@@ -23,13 +19,18 @@ use super::layout::capped;
 use super::layout::cards;
 use super::layout::count_of;
 use super::layout::head_of;
+use super::layout::held_block;
 use super::layout::held_of;
+use super::layout::place_of;
 use super::layout::sizes_fit;
 use super::layout::taken_of;
 use super::layout::tasks;
 use super::layout::wide;
 use super::letters::fits;
+use super::letters::kind_at;
 use super::letters::load;
+use super::letters::tag_at;
+use super::letters::to_at;
 use super::single::no_flight;
 use names::Card;
 
@@ -38,9 +39,8 @@ fn block_fits(memory: &[u32; 4808], block: usize) -> bool
     requires { ⌜ block < 601 ⌝ }
     ensures { λ r. ⌜ r ≡ blockFits (now (memory .entry)) block ⌝ }
 {
-    let at = block * 8;
-    let kind = memory[at];
-    let tag = memory[at + 7];
+    let kind = kind_at(memory, block);
+    let tag = tag_at(memory, block);
     let letter = load(memory, block);
     (1 <= kind) & (kind <= 4) & (tag <= 65535) & fits(memory, letter)
 }
@@ -50,9 +50,8 @@ fn inbox_fits(memory: &[u32; 4808], i: usize, k: u32) -> bool
     requires { ⌜ (i < 8) × (k < 48) ⌝ }
     ensures { λ r. ⌜ r ≡ inboxFits (now (memory .entry)) i k ⌝ }
 {
-    let head = memory[FIRST + i * PART + HEAD];
-    let block = INBOX + i * BLOCKS + ((head % 48 + k) % 48) as usize;
-    let to = memory[block * 8 + 6];
+    let block = place_of(memory, i, k);
+    let to = to_at(memory, block);
     block_fits(memory, block) & names::member(to, Card(i as u32))
 }
 
@@ -61,8 +60,8 @@ fn held_fits(memory: &[u32; 4808], i: usize, k: usize) -> bool
     requires { ⌜ (i < 8) × (k < 16) ⌝ }
     ensures { λ r. ⌜ r ≡ heldFits (now (memory .entry)) i k ⌝ }
 {
-    let block = KEPT + i * BLOCKS + k;
-    let to = memory[block * 8 + 6];
+    let block = held_block(i, k);
+    let to = to_at(memory, block);
     block_fits(memory, block) & names::single(to) & names::member(to, Card(i as u32))
 }
 
@@ -72,9 +71,8 @@ fn flight_fits(memory: &[u32; 4808], t: usize) -> bool
     ensures { λ r. ⌜ r ≡ flightFits (now (memory .entry)) t ⌝ }
 {
     let block = FLIGHT + t;
-    let at = block * 8;
-    let task = wide(memory[at + 1]);
-    let to = memory[at + 6];
+    let task = wide(memory[block * 8 + 1]);
+    let to = to_at(memory, block);
     no_flight(memory, t) | (block_fits(memory, block) & (task == t) & names::single(to))
 }
 
@@ -83,7 +81,7 @@ fn broadcast_fits(memory: &[u32; 4808], n: u32) -> bool
     ensures { λ r. ⌜ r ≡ broadcastFits (now (memory .entry)) n ⌝ }
 {
     let block = RECENT + (n % 64) as usize;
-    let to = memory[block * 8 + 6];
+    let to = to_at(memory, block);
     block_fits(memory, block) & names::several(to)
 }
 

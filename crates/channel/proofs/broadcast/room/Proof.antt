@@ -4,20 +4,8 @@ use borrow.Author.Needs.{needs}
 use Rattle.channel.proofs.broadcast.room.Statement.{statement}
 use Rattle.channel.proofs.broadcast.room.Tie as tie
 
-mul-wide : tie.Need-mul-wide
-mul-wide c = search needs
-
-add-wide : tie.Need-add-wide
-add-wide c = search needs
-
-add-wide-2 : tie.Need-add-wide-2
-add-wide-2 c = search needs
-
-mul-wide-2 : tie.Need-mul-wide-2
-mul-wide-2 c = search needs
-
-element-copy-out-wide : tie.Need-element-copy-out-wide
-element-copy-out-wide c = search needs
+count-of-requires : tie.Need-count-of-requires
+count-of-requires c κs = search needs
 
 wide-requires : tie.Need-wide-requires
 wide-requires c κs = search needs
@@ -43,24 +31,21 @@ unless-full-requires c κs = search needs
 
 returns-2 : tie.Need-returns-2
 unfolding roomAnswer
-returns-2 c = simp (c .before .before .before .if1 .taken, sym (c .before .before .crowded .ensures) ∙ c .before .if2 .left, ← (c .before .before .before .before .before .wide .ensures .0), ← (c .before .before .before .before .releasable .ensures .0)) (c .unless-full .ensures)
+returns-2 c = simp (c .before .before .before .if1 .taken, sym (c .before .before .crowded .ensures) ∙ c .before .if2 .left, ← (c .before .before .before .before .before .before .count-of .ensures), ← (c .before .before .before .before .before .wide .ensures .0), ← (c .before .before .before .before .releasable .ensures .0))
+    (c .unless-full .ensures)
 
 unless-full-requires-2 : tie.Need-unless-full-requires-2
 unless-full-requires-2 c κs = search needs
 
 returns-3 : tie.Need-returns-3
 unfolding roomAnswer
-returns-3 c = simp (c .before .if1 .left, ← (c .before .before .before .wide .ensures .0), ← (c .before .before .releasable .ensures .0)) (c .unless-full2 .ensures)
+returns-3 c = simp (c .before .if1 .left, ← (c .before .before .before .before .count-of .ensures), ← (c .before .before .before .wide .ensures .0), ← (c .before .before .releasable .ensures .0)) (c .unless-full2 .ensures)
 
 pub room-spec : {M : Type 1} → statement M
 room-spec =
     tie.close
     (tie.spec
-    mul-wide
-    add-wide
-    add-wide-2
-    mul-wide-2
-    element-copy-out-wide
+    count-of-requires
     wide-requires
     releasable-requires
     add-count

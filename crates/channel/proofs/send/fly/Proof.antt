@@ -4,7 +4,6 @@ use mathlib.Core.List.{List}
 use mathlib.Core.Path.{_≡_, sym, _∙_}
 use native.Mathlib.Omega.{arith}
 use lib.ListN.{getD}
-use borrow.Author.Needs.{needs}
 use borrow.Author.Tests.{ltb-true, not-true, not-false}
 use Rattle.lists.specs.Tests.{and-fst}
 use Rattle.channel.specs.Answers.{isDone}
@@ -12,6 +11,7 @@ use Rattle.channel.specs.Dispatch.{flyAnswer, flyMemory}
 use Rattle.channel.specs.Layout.{tasksOf}
 use Rattle.channel.specs.Letters.{fits}
 use Rattle.names.specs.declared.Letter.{Letter}
+use borrow.Author.Needs.{needs}
 use Rattle.channel.proofs.send.fly.Statement.{statement}
 use Rattle.channel.proofs.send.fly.Tie as tie
 
@@ -35,29 +35,24 @@ no-flight-requires c κs = let b = fits-task _ _ (sym (c .before .before .before
 
 returns-2 : tie.Need-returns-2
 unfolding flyAnswer flyMemory isDone
-returns-2 c = let z = sym (c .before .before .before .before .before .before .fits2 .ensures) ∙ not-false _ (c .before .before .before .before .before .if1 .left) in let y = sym (c .before .no-flight .ensures) ∙ not-true _ (c .if2 .taken) in (simp (z, y), simp (z, y))
+returns-2 c = let z = sym (c .before .before .before .before .before .before .fits2 .ensures) ∙ not-false _ (c .before .before .before .before .before .if1 .left) in
+    let y = sym (c .before .no-flight .ensures) ∙ not-true _ (c .if2 .taken) in
+    (simp (z, y), simp (z, y))
 
-mul-tag : tie.Need-mul-tag
-mul-tag c = search needs
-
-add-tag : tie.Need-add-tag
-add-tag c = search needs
-
-mul-tag-2 : tie.Need-mul-tag-2
-mul-tag-2 c = search needs
-
-element-copy-out-tag : tie.Need-element-copy-out-tag
-element-copy-out-tag c = search needs
+taken-of-requires : tie.Need-taken-of-requires
+taken-of-requires c κs = search needs
 
 add-store : tie.Need-add-store
 add-store c = search needs
 
 store-requires : tie.Need-store-requires
-store-requires c κs = let b = fits-task _ _ (sym (c .before .before .before .before .before .before .before .before .fits2 .ensures) ∙ not-false _ (c .before .before .before .before .before .before .before .if1 .left)) in search needs
+store-requires c κs = let b = fits-task _ _ (sym (c .before .before .before .before .before .before .before .before .before .fits2 .ensures) ∙ not-false _ (c .before .before .before .before .before .before .before .before .if1 .left)) in search needs
 
 returns-3 : tie.Need-returns-3
 unfolding flyAnswer flyMemory isDone
-returns-3 c = let z = sym (c .before .before .before .before .before .before .before .before .before .fits2 .ensures) ∙ not-false _ (c .before .before .before .before .before .before .before .before .if1 .left) in let y = sym (c .before .before .before .before .no-flight .ensures) ∙ not-false _ (c .before .before .before .if2 .left) in (simp (z, y, c .store .ensures), simp (z, y))
+returns-3 c = let z = sym (c .before .before .before .before .before .before .before .before .before .before .fits2 .ensures) ∙ not-false _ (c .before .before .before .before .before .before .before .before .before .if1 .left) in
+    let y = sym (c .before .before .before .before .before .no-flight .ensures) ∙ not-false _ (c .before .before .before .before .if2 .left) in
+    (simp (z, y, c .store .ensures, c .before .before .taken-of .ensures), simp (z, y))
 
 pub fly-spec : {M : Type 1} → statement M
 fly-spec =
@@ -68,10 +63,7 @@ fly-spec =
     cast-t
     no-flight-requires
     returns-2
-    mul-tag
-    add-tag
-    mul-tag-2
-    element-copy-out-tag
+    taken-of-requires
     add-store
     store-requires
     returns-3)

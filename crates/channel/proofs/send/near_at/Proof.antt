@@ -1,25 +1,16 @@
-use borrow.Author.Needs.{needs}
 use Rattle.channel.specs.Dispatch.{nearAt}
+use borrow.Author.Needs.{needs}
 use Rattle.channel.proofs.send.near_at.Statement.{statement}
 use Rattle.channel.proofs.send.near_at.Tie as tie
 
-mul-wide : tie.Need-mul-wide
-mul-wide c = search needs
-
-add-wide : tie.Need-add-wide
-add-wide c = search needs
-
-mul-wide-2 : tie.Need-mul-wide-2
-mul-wide-2 c = search needs
-
-element-copy-out-wide : tie.Need-element-copy-out-wide
-element-copy-out-wide c = search needs
+taken-of-requires : tie.Need-taken-of-requires
+taken-of-requires c κs = search needs
 
 wide-requires : tie.Need-wide-requires
 wide-requires c κs = search needs
 
-element-copy-out-wide-2 : tie.Need-element-copy-out-wide-2
-element-copy-out-wide-2 c = search needs
+element-copy-out-wide : tie.Need-element-copy-out-wide
+element-copy-out-wide c = search needs
 
 wide-requires-2 : tie.Need-wide-requires-2
 wide-requires-2 c κs = search needs
@@ -32,18 +23,15 @@ add-result-2 c = search needs
 
 returns : tie.Need-returns
 unfolding nearAt
-returns c = rw (← (c .before .before .wide .ensures .0), ← (c .wide2 .ensures .0))
+returns c = rw (← (c .before .before .before .taken-of .ensures), ← (c .before .before .wide .ensures .0), ← (c .wide2 .ensures .0))
 
 pub near-at-spec : {M : Type 1} → statement M
 near-at-spec =
     tie.close
     (tie.spec
-    mul-wide
-    add-wide
-    mul-wide-2
-    element-copy-out-wide
+    taken-of-requires
     wide-requires
-    element-copy-out-wide-2
+    element-copy-out-wide
     wide-requires-2
     add-result
     add-result-2

@@ -4,36 +4,18 @@ use borrow.Author.Needs.{needs}
 use Rattle.channel.proofs.single.hold.Statement.{statement}
 use Rattle.channel.proofs.single.hold.Tie as tie
 
-mul-at : tie.Need-mul-at
-mul-at c = search needs
-
-add-at : tie.Need-add-at
-add-at c = search needs
-
-add-at-2 : tie.Need-add-at-2
-add-at-2 c = search needs
-
-mul-held : tie.Need-mul-held
-mul-held c = search needs
-
-element-copy-out-held : tie.Need-element-copy-out-held
-element-copy-out-held c = search needs
+held-of-requires : tie.Need-held-of-requires
+held-of-requires c κs = search needs
 
 returns : tie.Need-returns
 unfolding heldMore
-returns c = simp (le-ltb _ _ (c .if1 .taken))
+returns c = simp (rw (c .before .held-of .ensures) at (le-ltb _ _ (c .if1 .taken)))
 
-mul-store : tie.Need-mul-store
-mul-store c = search needs
+cast-held-block : tie.Need-cast-held-block
+cast-held-block c = search needs
 
-add-store : tie.Need-add-store
-add-store c = search needs
-
-cast-store : tie.Need-cast-store
-cast-store c = search needs
-
-add-store-2 : tie.Need-add-store-2
-add-store-2 c = search needs
+held-block-requires : tie.Need-held-block-requires
+held-block-requires c κs = search needs
 
 store-requires : tie.Need-store-requires
 store-requires c κs = search needs
@@ -44,29 +26,35 @@ add-memory c = search needs
 mul-memory : tie.Need-mul-memory
 mul-memory c = search needs
 
+add-memory-2 : tie.Need-add-memory-2
+add-memory-2 c = search needs
+
+add-memory-3 : tie.Need-add-memory-3
+add-memory-3 c = search needs
+
+mul-memory-2 : tie.Need-mul-memory-2
+mul-memory-2 c = search needs
+
 element-write-memory : tie.Need-element-write-memory
 element-write-memory c = search needs
 
 returns-2 : tie.Need-returns-2
 unfolding heldMore
-returns-2 c = simp (lt-ltb _ _ (c .before .before .if1 .left), c .store .ensures)
+returns-2 c = let n = c .before .before .before .before .held-of .ensures in simp (rw n at (lt-ltb _ _ (c .before .before .before .if1 .left)), c .store .ensures, c .before .held-block .ensures .0, n)
 
 pub hold-spec : {M : Type 1} → statement M
 hold-spec =
     tie.close
     (tie.spec
-    mul-at
-    add-at
-    add-at-2
-    mul-held
-    element-copy-out-held
+    held-of-requires
     returns
-    mul-store
-    add-store
-    cast-store
-    add-store-2
+    cast-held-block
+    held-block-requires
     store-requires
     add-memory
     mul-memory
+    add-memory-2
+    add-memory-3
+    mul-memory-2
     element-write-memory
     returns-2)

@@ -18,23 +18,14 @@ returns : tie.Need-returns
 unfolding isDone
 returns c = let x = simp (c .before .before .load .ensures) at (sym (c .before .single .ensures) ∙ not-true _ (c .if1 .taken)) in (simp x, simp x)
 
-add-tag : tie.Need-add-tag
-add-tag c = search needs
+add-tag-at : tie.Need-add-tag-at
+add-tag-at c = search needs
 
-mul-tag : tie.Need-mul-tag
-mul-tag c = search needs
-
-add-tag-2 : tie.Need-add-tag-2
-add-tag-2 c = search needs
-
-mul-tag-2 : tie.Need-mul-tag-2
-mul-tag-2 c = search needs
-
-element-copy-out-tag : tie.Need-element-copy-out-tag
-element-copy-out-tag c = search needs
+tag-at-requires : tie.Need-tag-at-requires
+tag-at-requires c κs = search needs
 
 destination-requires : tie.Need-destination-requires
-destination-requires c κs = sym (c .before .before .single .ensures) ∙ not-false _ (c .before .if1 .left)
+destination-requires c κs = sym (c .before .before .before .single .ensures) ∙ not-false _ (c .before .before .if1 .left)
 
 joins-at-requires : tie.Need-joins-at-requires
 joins-at-requires c κs = search needs
@@ -49,19 +40,21 @@ land-requires : tie.Need-land-requires
 land-requires c κs = search needs
 
 returns-2 : tie.Need-returns-2
-returns-2 c = let l = c .before .before .before .before .before .before .before .before .before .before .before .before .load .ensures in
-    let x = simp l at (sym (c .before .before .before .before .before .before .before .before .before .before .before .single .ensures) ∙ not-false _ (c .before .before .before .before .before .before .before .before .before .before .if1 .left)) in
+returns-2 c = let l = c .before .before .before .before .before .before .before .before .before .before .before .before .before .load .ensures in
+    let x = simp l at (sym (c .before .before .before .before .before .before .before .before .before .before .before .before .single .ensures) ∙ not-false _ (c .before .before .before .before .before .before .before .before .before .before .before .if1 .left)) in
+    let g = c .before .before .before .before .before .before .before .before .before .tag-at .ensures in
     let i = simp l at (c .before .before .before .before .before .before .before .before .destination .ensures .0) in
-    let j = simp i at (c .before .before .before .before .before .before .joins-at .ensures) in
+    let j = simp (i, g) at (c .before .before .before .before .before .before .joins-at .ensures) in
     let a = simp (i, j) at (c .before .before .before .before .may-land .ensures) in
     let d = simp a at (sym (c .before .before .before .done .ensures) ∙ c .before .before .if2 .taken) in
-    (simp (x, d) (simp (l, i, j) at (c .land .ensures)), simp x a)
+    (simp (x, d) (simp (l, i, j, g) at (c .land .ensures)), simp x a)
 
 returns-3 : tie.Need-returns-3
-returns-3 c = let l = c .before .before .before .before .before .before .before .before .before .before .load .ensures in
-    let x = simp l at (sym (c .before .before .before .before .before .before .before .before .before .single .ensures) ∙ not-false _ (c .before .before .before .before .before .before .before .before .if1 .left)) in
+returns-3 c = let l = c .before .before .before .before .before .before .before .before .before .before .before .load .ensures in
+    let x = simp l at (sym (c .before .before .before .before .before .before .before .before .before .before .single .ensures) ∙ not-false _ (c .before .before .before .before .before .before .before .before .before .if1 .left)) in
+    let g = c .before .before .before .before .before .before .before .tag-at .ensures in
     let i = simp l at (c .before .before .before .before .before .before .destination .ensures .0) in
-    let j = simp i at (c .before .before .before .before .joins-at .ensures) in
+    let j = simp (i, g) at (c .before .before .before .before .joins-at .ensures) in
     let a = simp (i, j) at (c .before .before .may-land .ensures) in
     let d = simp a at (sym (c .before .done .ensures) ∙ c .if2 .left) in
     (simp (x, d), simp x a)
@@ -74,11 +67,8 @@ reach-spec =
     load-requires
     single-requires
     returns
-    add-tag
-    mul-tag
-    add-tag-2
-    mul-tag-2
-    element-copy-out-tag
+    add-tag-at
+    tag-at-requires
     destination-requires
     joins-at-requires
     may-land-requires

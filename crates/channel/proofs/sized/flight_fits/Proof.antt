@@ -1,20 +1,20 @@
-use borrow.Author.Needs.{needs}
 use Rattle.names.specs.Letters.{letterAt}
 use Rattle.channel.specs.Sized.{flightFits}
+use borrow.Author.Needs.{needs}
 use Rattle.channel.proofs.sized.flight_fits.Statement.{statement}
 use Rattle.channel.proofs.sized.flight_fits.Tie as tie
 
 add-block : tie.Need-add-block
 add-block c = search needs
 
-mul-at : tie.Need-mul-at
-mul-at c = search needs
+mul-wide : tie.Need-mul-wide
+mul-wide c = search needs
 
 add-wide : tie.Need-add-wide
 add-wide c = search needs
 
-mul-wide : tie.Need-mul-wide
-mul-wide c = search needs
+mul-wide-2 : tie.Need-mul-wide-2
+mul-wide-2 c = search needs
 
 element-copy-out-wide : tie.Need-element-copy-out-wide
 element-copy-out-wide c = search needs
@@ -22,14 +22,8 @@ element-copy-out-wide c = search needs
 wide-requires : tie.Need-wide-requires
 wide-requires c κs = search needs
 
-add-to : tie.Need-add-to
-add-to c = search needs
-
-mul-to : tie.Need-mul-to
-mul-to c = search needs
-
-element-copy-out-to : tie.Need-element-copy-out-to
-element-copy-out-to c = search needs
+to-at-requires : tie.Need-to-at-requires
+to-at-requires c κs = search needs
 
 no-flight-requires : tie.Need-no-flight-requires
 no-flight-requires c κs = search needs
@@ -42,21 +36,19 @@ single-requires c κs = search needs
 
 returns : tie.Need-returns
 unfolding flightFits letterAt
-returns c = rw (← (c .before .before .no-flight .ensures), ← (c .before .block-fits .ensures), ← (c .before .before .before .before .wide .ensures .0), ← (c .single .ensures))
+returns c = rw (← (c .before .before .no-flight .ensures), ← (c .before .block-fits .ensures), ← (c .before .before .before .before .wide .ensures .0), ← (c .before .before .before .to-at .ensures), ← (c .single .ensures))
 
 pub flight-fits-spec : {M : Type 1} → statement M
 flight-fits-spec =
     tie.close
     (tie.spec
     add-block
-    mul-at
-    add-wide
     mul-wide
+    add-wide
+    mul-wide-2
     element-copy-out-wide
     wide-requires
-    add-to
-    mul-to
-    element-copy-out-to
+    to-at-requires
     no-flight-requires
     block-fits-requires
     single-requires

@@ -1,29 +1,13 @@
-use borrow.Author.Needs.{needs}
-use Rattle.names.specs.Letters.{letterAt}
 use Rattle.channel.specs.Sized.{heldFits}
+use borrow.Author.Needs.{needs}
 use Rattle.channel.proofs.sized.held_fits.Statement.{statement}
 use Rattle.channel.proofs.sized.held_fits.Tie as tie
 
-mul-block : tie.Need-mul-block
-mul-block c = search needs
+held-block-requires : tie.Need-held-block-requires
+held-block-requires c κs = search needs
 
-add-block : tie.Need-add-block
-add-block c = search needs
-
-add-block-2 : tie.Need-add-block-2
-add-block-2 c = search needs
-
-mul-to : tie.Need-mul-to
-mul-to c = search needs
-
-add-to : tie.Need-add-to
-add-to c = search needs
-
-mul-to-2 : tie.Need-mul-to-2
-mul-to-2 c = search needs
-
-element-copy-out-to : tie.Need-element-copy-out-to
-element-copy-out-to c = search needs
+to-at-requires : tie.Need-to-at-requires
+to-at-requires c κs = search needs
 
 block-fits-requires : tie.Need-block-fits-requires
 block-fits-requires c κs = search needs
@@ -31,29 +15,24 @@ block-fits-requires c κs = search needs
 single-requires : tie.Need-single-requires
 single-requires c κs = search needs
 
-cast-t11 : tie.Need-cast-t11
-cast-t11 c = search needs
+cast-t10 : tie.Need-cast-t10
+cast-t10 c = search needs
 
 member-requires : tie.Need-member-requires
 member-requires c κs = search needs
 
 returns : tie.Need-returns
-unfolding heldFits letterAt
-returns c = rw (← (c .before .before .block-fits .ensures), ← (c .before .single .ensures), ← (c .member .ensures))
+unfolding heldFits
+returns c = rw (← (c .before .before .before .before .held-block .ensures .0), ← (c .before .before .before .to-at .ensures), ← (c .before .before .block-fits .ensures), ← (c .before .single .ensures), ← (c .member .ensures))
 
 pub held-fits-spec : {M : Type 1} → statement M
 held-fits-spec =
     tie.close
     (tie.spec
-    mul-block
-    add-block
-    add-block-2
-    mul-to
-    add-to
-    mul-to-2
-    element-copy-out-to
+    held-block-requires
+    to-at-requires
     block-fits-requires
     single-requires
-    cast-t11
+    cast-t10
     member-requires
     returns)
