@@ -30,22 +30,12 @@ fn operand(argument: [u8; 8]) -> u32
 fn rest_zero(argument: [u8; 8]) -> bool
     ensures { λ r. ⌜ r ≡ restZero argument ⌝ }
 {
-    if argument[2] != 0 {
-        return false;
-    }
-    if argument[3] != 0 {
-        return false;
-    }
-    if argument[4] != 0 {
-        return false;
-    }
-    if argument[5] != 0 {
-        return false;
-    }
-    if argument[6] != 0 {
-        return false;
-    }
-    argument[7] == 0
+    (argument[2] == 0)
+        & (argument[3] == 0)
+        & (argument[4] == 0)
+        & (argument[5] == 0)
+        & (argument[6] == 0)
+        & (argument[7] == 0)
 }
 
 // The command where the number is 0, else the refusal.

@@ -1,4 +1,5 @@
-// The check of both memories that refusal 6 for the state asks for.
+// The check of both memories that refusal 6 for the state asks for. Tests are joined by `&`, with no early return: a proof then answers for
+// one way out, and is checked sooner.
 ghost use mathlib.Core.Path.{_≡_};
 ghost use Prim.Native.Nat.{_<_, _≤_, min};
 ghost use Rattle.lists.specs.Every.{each};
@@ -31,13 +32,7 @@ fn doing_fits(channel: &[u32; 4808], doing: Doing) -> bool
         Doing::Quiet => true,
         Doing::AskingRead(x) => x.0 < channel::registers(channel),
         Doing::AskingUpdate(x, f, _) => {
-            if channel::registers(channel) <= x.0 {
-                return false;
-            }
-            if f < 1 {
-                return false;
-            }
-            f <= 4
+            (x.0 < channel::registers(channel)) & (1 <= f) & (f <= 4)
         }
         Doing::Waiting => true,
         Doing::DoneRead(_) => true,
@@ -49,13 +44,9 @@ fn doing_fits(channel: &[u32; 4808], doing: Doing) -> bool
 fn task_fits(registers: &[u32; 1544], channel: &[u32; 4808], task: Task) -> bool
     ensures { λ r. ⌜ r ≡ taskFits (now (registers .entry)) (now (channel .entry)) (task .0) ⌝ }
 {
-    if channel::cards(channel) <= home(registers, task).0 {
-        return false;
-    }
-    if 5 < registers[TASK + task_place(task) * 8 + 1] {
-        return false;
-    }
-    doing_fits(channel, load(registers, task))
+    let kind = registers[TASK + task_place(task) * 8 + 1];
+    let doing = load(registers, task);
+    (home(registers, task).0 < channel::cards(channel)) & (kind <= 5) & doing_fits(channel, doing)
 }
 
 // Whether a register's holders and primary are present cards.
@@ -63,10 +54,8 @@ fn register_fits(registers: &[u32; 1544], channel: &[u32; 4808], register: Regis
     ensures { λ r. ⌜ r ≡ registerFits (now (registers .entry)) (now (channel .entry)) (register .0) ⌝ }
 {
     let cards = channel::cards(channel);
-    if !names::placement::all_present(holders(registers, register), cards) {
-        return false;
-    }
-    primary(registers, register).0 < cards
+    names::placement::all_present(holders(registers, register), cards)
+        & (primary(registers, register).0 < cards)
 }
 
 // Whether place k of a card's outbox is in order.
@@ -78,12 +67,6 @@ fn out_fits(registers: &[u32; 1544], channel: &[u32; 4808], card: Card, k: u32) 
     let head = registers[OUTBOX + i * 136];
     let block = OUT + i * 17 + ((head % 16 + k) % 16) as usize;
     let kind = registers[block * 8];
-    if kind < 1 {
-        return false;
-    }
-    if 4 < kind {
-        return false;
-    }
     let letter = load_letter(registers, block);
     let message = letter.message;
     let outgoing = Letter {
@@ -91,7 +74,7 @@ fn out_fits(registers: &[u32; 1544], channel: &[u32; 4808], card: Card, k: u32) 
         from: card,
         to: letter.to,
     };
-    channel::fits(channel, outgoing)
+    (1 <= kind) & (kind <= 4) & channel::fits(channel, outgoing)
 }
 
 // The smaller of a number and 16.
@@ -123,13 +106,8 @@ fn out_all(registers: &[u32; 1544], channel: &[u32; 4808], card: Card) -> bool
 fn outbox_fits(registers: &[u32; 1544], channel: &[u32; 4808], card: Card) -> bool
     ensures { λ r. ⌜ r ≡ outboxFits (now (registers .entry)) (now (channel .entry)) (card .0) ⌝ }
 {
-    if 16 <= registers[OUTBOX + card_place(card) * 136] {
-        return false;
-    }
-    if 16 < count(registers, card) {
-        return false;
-    }
-    out_all(registers, channel, card)
+    let head = registers[OUTBOX + card_place(card) * 136];
+    (head < 16) & (count(registers, card) <= 16) & out_all(registers, channel, card)
 }
 
 // Whether every task's words are in order.
@@ -181,24 +159,15 @@ fn outbox_all(registers: &[u32; 1544], channel: &[u32; 4808]) -> bool
 fn registers_sized(registers: &[u32; 1544], channel: &[u32; 4808]) -> bool
     ensures { λ r. ⌜ r ≡ registersSized (now (registers .entry)) (now (channel .entry)) ⌝ }
 {
-    if 65535 < registers[REQUESTS] {
-        return false;
-    }
-    if !task_all(registers, channel) {
-        return false;
-    }
-    if !register_all(registers, channel) {
-        return false;
-    }
-    outbox_all(registers, channel)
+    (registers[REQUESTS] <= 65535)
+        & task_all(registers, channel)
+        & register_all(registers, channel)
+        & outbox_all(registers, channel)
 }
 
 // Whether both memories are well sized; else a step is refused with 6.
 pub fn well_sized(registers: &[u32; 1544], channel: &[u32; 4808]) -> bool
     ensures { λ r. ⌜ r ≡ storeSized (now (registers .entry)) (now (channel .entry)) ⌝ }
 {
-    if !channel::well_sized(channel) {
-        return false;
-    }
-    registers_sized(registers, channel)
+    channel::well_sized(channel) & registers_sized(registers, channel)
 }

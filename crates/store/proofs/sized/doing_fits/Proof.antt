@@ -1,4 +1,3 @@
-use borrow.Author.Tests.{lt-ltb, le-ltb, le-leb, lt-leb}
 use Rattle.lists.specs.Tests.{cases}
 use Rattle.store.specs.Sized.{doingFits}
 use borrow.Author.Needs.{needs}
@@ -20,14 +19,6 @@ enum-known-doing-2 c = search needs
 registers-requires-2 : tie.Need-registers-requires-2
 registers-requires-2 c κs = search needs
 
-returns : tie.Need-returns
-unfolding doingFits
-returns c = let z = rw (c .before .before .registers2 .ensures .0) at (le-ltb _ _ (c .if1 .taken)) in rw (c .before .before .before .before .doing2 .given .1) (simp z)
-
-returns-2 : tie.Need-returns-2
-unfolding doingFits
-returns-2 c = let z = rw (c .before .before .before .registers2 .ensures .0) at (lt-ltb _ _ (c .before .if1 .left)) in rw (c .before .before .before .before .before .doing2 .given .1) (simp (z, lt-leb _ _ (c .if2 .taken)))
-
 enum-told-2 : tie.Need-enum-told-2
 enum-told-2 c = search needs
 
@@ -37,29 +28,29 @@ enum-told-3 c = search needs
 enum-told-4 : tie.Need-enum-told-4
 enum-told-4 c = search needs
 
+returns : tie.Need-returns
+unfolding doingFits
+returns c = search (needs, cases)
+
+returns-2 : tie.Need-returns-2
+unfolding doingFits
+returns-2 c = rw (c .before .before .before .doing .given .1, c .before .registers .ensures .0)
+
 returns-3 : tie.Need-returns-3
 unfolding doingFits
-returns-3 c = search (needs, cases)
+returns-3 c = rw (c .before .before .before .doing2 .given .1, c .before .registers2 .ensures .0)
 
 returns-4 : tie.Need-returns-4
 unfolding doingFits
-returns-4 c = rw (c .before .before .before .doing .given .1) (simp (c .before .registers .ensures .0))
+returns-4 c = search (needs, cases)
 
 returns-5 : tie.Need-returns-5
 unfolding doingFits
-returns-5 c = let z = rw (c .before .before .before .registers2 .ensures .0) at (lt-ltb _ _ (c .before .if1 .left)) in rw (c .before .before .before .before .before .doing2 .given .1) (simp (z, le-leb _ _ (c .if2 .left)))
+returns-5 c = search (needs, cases)
 
 returns-6 : tie.Need-returns-6
 unfolding doingFits
 returns-6 c = search (needs, cases)
-
-returns-7 : tie.Need-returns-7
-unfolding doingFits
-returns-7 c = search (needs, cases)
-
-returns-8 : tie.Need-returns-8
-unfolding doingFits
-returns-8 c = search (needs, cases)
 
 pub doing-fits-spec : {M : Type 1} → statement M
 doing-fits-spec =
@@ -70,14 +61,12 @@ doing-fits-spec =
     registers-requires
     enum-known-doing-2
     registers-requires-2
-    returns
-    returns-2
     enum-told-2
     enum-told-3
     enum-told-4
+    returns
+    returns-2
     returns-3
     returns-4
     returns-5
-    returns-6
-    returns-7
-    returns-8)
+    returns-6)

@@ -1,4 +1,3 @@
-use borrow.Author.Tests.{le-leb, lt-leb}
 use Rattle.store.specs.Sized.{outFits}
 use borrow.Author.Needs.{needs}
 use Rattle.store.proofs.sized.out_fits.Statement.{statement}
@@ -43,23 +42,15 @@ mul-kind-2 c = search needs
 element-copy-out-kind : tie.Need-element-copy-out-kind
 element-copy-out-kind c = search needs
 
-returns : tie.Need-returns
-unfolding outFits
-returns c = let a = rw (c .before .before .before .card-place .ensures .0) at (lt-leb _ _ (c .if1 .taken)) in simp a
-
-returns-2 : tie.Need-returns-2
-unfolding outFits
-returns-2 c = let a = rw (c .before .before .before .before .card-place .ensures .0) at (le-leb _ _ (c .before .if1 .left)) in let b = rw (c .before .before .before .before .card-place .ensures .0) at (lt-leb _ _ (c .if2 .taken)) in simp (a, b)
-
 load-letter-requires : tie.Need-load-letter-requires
 load-letter-requires c κs = search needs
 
 fits-requires : tie.Need-fits-requires
 fits-requires c κs = search needs
 
-returns-3 : tie.Need-returns-3
+returns : tie.Need-returns
 unfolding outFits
-returns-3 c = let a = rw (c .before .before .before .before .before .before .before .card-place .ensures .0) at (le-leb _ _ (c .before .before .before .before .if1 .left)) in let b = rw (c .before .before .before .before .before .before .before .card-place .ensures .0) at (le-leb _ _ (c .before .before .before .if2 .left)) in simp (a, b) (rw (rw (c .before .before .before .before .before .before .before .card-place .ensures .0) at (c .before .before .load-letter .ensures)) at (c .fits2 .ensures))
+returns c = rw (c .fits2 .ensures, c .before .before .load-letter .ensures, ← (c .before .before .before .before .before .card-place .ensures .0))
 
 pub out-fits-spec : {M : Type 1} → statement M
 out-fits-spec =
@@ -78,8 +69,6 @@ out-fits-spec =
     mul-kind
     mul-kind-2
     element-copy-out-kind
-    returns
-    returns-2
     load-letter-requires
     fits-requires
-    returns-3)
+    returns)
