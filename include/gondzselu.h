@@ -51,11 +51,11 @@ typedef struct {
     uint32_t refused;
 } gondzselu_tally;
 
-/* The same, and adds the run's steps to the two counts of a tally: pass &tally.taken and
- * &tally.refused. A refused file or output leaves them alone. */
+/* The same, and adds the run's steps to a lent tally. A refused file or output leaves it
+ * alone. */
 uint8_t gondzselu_answer_counted(const uint8_t *file, size_t file_length,
                                  uint8_t *output, size_t output_length,
-                                 uint32_t *taken, uint32_t *refused);
+                                 gondzselu_tally *tally);
 
 /* ---- a store */
 

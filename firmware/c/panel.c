@@ -74,8 +74,7 @@ static int answer(const char *name) {
     }
     size_t length = fread(file, 1, sizeof file, f);
     fclose(f);
-    uint8_t refusal = gondzselu_answer_counted(file, length, output, sizeof output,
-                                               &tally.taken, &tally.refused);
+    uint8_t refusal = gondzselu_answer_counted(file, length, output, sizeof output, &tally);
     if (refusal != 0) {
         printf("refused: %u\n", refusal);
         return 0;

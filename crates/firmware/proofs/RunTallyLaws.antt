@@ -1,16 +1,14 @@
 -- What `runfile::answer` says of a run, taken apart; and that a run counted at once is its results counted one by one.
-use Prim.Native.Nat.{ℕ, _≤_}
+use Prim.Native.Nat.{ℕ}
 use mathlib.Core.Path.{_≡_, refl, sym, ap, ap₂, _∙_, subst}
 use mathlib.Core.Bool.{Bool, true, false, cond, not}
 use mathlib.Core.List.{List, map}
-use native.Mathlib.Omega.{arith}
 use lib.Dec.{eqb, eqb→eq, T}
-use lib.ListN.{length}
 use borrow.Author.Tests.{eq-eqb, ne-eqb}
 use Rattle.lists.specs.Maps.{length-filter-map}
 use Rattle.names.specs.declared.Answer.{Answer}
 use Rattle.tally.specs.declared.Tally.{Tally}
-use Rattle.tally.specs.Tally.{tallyOf, counted, isTaken, countedSteps, takenIn, refusedIn}
+use Rattle.tally.specs.Tally.{counted, isTaken, countedSteps, takenIn, refusedIn}
 use Rattle.tally.proofs.TallyLaws.{Fits, counted-none, all-at-once}
 use Rattle.runfile.specs.declared.Answered.{Answered}
 use Rattle.runfile.specs.Run.{answersIn, takenOf, refusedOf, answerRefusal, answeredOf}
@@ -37,26 +35,18 @@ refusal-is file out = go (eqb (answerRefusal file out) 0) refl
     go true e = rw (said-is file out true e) (sym (zero-of _ e))
     go false e = rw (said-is file out false e) refl
 
-ran-is : (file out : List ℕ) (t : Tally) (b : Bool) → eqb (answerRefusal file out) 0 ≡ b → ranTally file out t ≡ cond b (counted t (takenOf (answersIn file)) (refusedOf (answersIn file))) t
-unfolding ranTally
-ran-is file out t b e = rw e refl
-
-pub counts-are : (file out : List ℕ) (t : Tally) → Fits t → counted t (answeredOf file out .taken) (answeredOf file out .refused) ≡ ranTally file out t
-counts-are file out t f = go (eqb (answerRefusal file out) 0) refl
-  where
-    go : (b : Bool) → eqb (answerRefusal file out) 0 ≡ b → counted t (answeredOf file out .taken) (answeredOf file out .refused) ≡ ranTally file out t
-    go true e = rw (said-is file out true e, ran-is file out t true e) refl
-    go false e = rw (said-is file out false e, ran-is file out t false e) (counted-none t f)
-
 -- a run's steps counted at once: as one by one
 pub ran-one-by-one : (file out : List ℕ) (t : Tally) → Fits t → answerRefusal file out ≡ 0 → ranTally file out t ≡ countedSteps t (map (λ a. a .result) (answersIn file))
-unfolding takenIn refusedIn isTaken
+unfolding ranTally takenIn refusedIn isTaken
 ran-one-by-one file out t f e =
-    ran-is file out t true (eq-eqb (answerRefusal file out) 0 e)
+    ap (λ s. counted t (s .taken) (s .refused)) (said-is file out true (eq-eqb (answerRefusal file out) 0 e))
     ∙ ap₂ (counted t)
     (sym (length-filter-map (λ (a : Answer). a .result) (λ a. isTaken (a .result)) isTaken (λ a. refl) (answersIn file)))
     (sym (length-filter-map (λ (a : Answer). a .result) (λ a. not (isTaken (a .result))) (λ r. not (isTaken r)) (λ a. refl) (answersIn file)))
     ∙ sym (all-at-once t (map (λ a. a .result) (answersIn file)) f)
 
-pub refused-alone : (file out : List ℕ) (t : Tally) → ¬ (answerRefusal file out ≡ 0) → ranTally file out t ≡ t
-refused-alone file out t n = ran-is file out t false (ne-eqb (answerRefusal file out) 0 n)
+-- a refused file or output leaves the tally alone
+pub refused-alone : (file out : List ℕ) (t : Tally) → Fits t → ¬ (answerRefusal file out ≡ 0) → ranTally file out t ≡ t
+unfolding ranTally
+refused-alone file out t f n =
+    ap (λ s. counted t (s .taken) (s .refused)) (said-is file out false (ne-eqb (answerRefusal file out) 0 n)) ∙ counted-none t f

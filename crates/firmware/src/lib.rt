@@ -9,11 +9,11 @@ ghost use Rattle.store.specs.Step.{stepped};
 ghost use Rattle.store.specs.Panel.{valueShown, doingShown};
 ghost use Rattle.store.specs.Doings.{doingKind, doingValue};
 ghost use Rattle.runfile.specs.Run.{answerRefusal, answerOutput};
-ghost use Rattle.tally.specs.Tally.{tallyOf};
 ghost use Rattle.firmware.specs.RunTally.{ranTally};
 use names::Card;
 use names::Register;
 use names::Task;
+use tally::Tally;
 
 // ---- sizes of the memories, in words of 32 bits
 
@@ -43,23 +43,15 @@ pub extern "C" fn gondzselu_answer(file: &[u8], out: &mut [u8]) -> u8
     said.refusal
 }
 
-// The same, with the run's steps counted in a lent tally, of which the two counts are passed. A refused file or output leaves it alone.
+// The same, with the run's steps counted in a lent tally. A refused file or output leaves it alone.
 #[no_mangle]
-pub extern "C" fn gondzselu_answer_counted(
-    file: &[u8],
-    out: &mut [u8],
-    taken: &mut u32,
-    refused: &mut u32,
-) -> u8
+pub extern "C" fn gondzselu_answer_counted(file: &[u8], out: &mut [u8], tally: &mut Tally) -> u8
     ensures output { λ _. ⌜ now (out .exit) ≡ answerOutput (now (file .entry)) (now (out .entry)) ⌝ }
-    ensures taken { λ _. ⌜ now (taken .exit) ≡ ranTally (now (file .entry)) (now (out .entry)) (tallyOf (now (taken .entry)) (now (refused .entry))) .taken ⌝ }
-    ensures refused { λ _. ⌜ now (refused .exit) ≡ ranTally (now (file .entry)) (now (out .entry)) (tallyOf (now (taken .entry)) (now (refused .entry))) .refused ⌝ }
+    ensures tally { λ _. ⌜ now (tally .exit) ≡ ranTally (now (file .entry)) (now (out .entry)) (now (tally .entry)) ⌝ }
     ensures number { λ r. ⌜ r ≡ answerRefusal (now (file .entry)) (now (out .entry)) ⌝ }
 {
     let said = runfile::answer(file, out);
-    let tally = tally::counted(*taken, *refused, said.taken, said.refused);
-    *taken = tally.taken;
-    *refused = tally.refused;
+    tally::count(tally, said.taken, said.refused);
     said.refusal
 }
 

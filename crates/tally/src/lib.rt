@@ -2,6 +2,7 @@
 ghost use mathlib.Core.Path.{_≡_};
 ghost use Rattle.tally.specs.Tally.{raised, tallyOf, counted};
 
+#[repr(C)]
 pub struct Tally {
     pub taken: u32,
     pub refused: u32,

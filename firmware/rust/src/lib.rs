@@ -12,8 +12,7 @@ extern "C" {
         file_length: usize,
         output: *mut u8,
         output_length: usize,
-        taken: *mut u32,
-        refused: *mut u32,
+        tally: *mut Tally,
     ) -> u8;
     fn gondzselu_answer(
         file: *const u8,
@@ -55,6 +54,7 @@ pub fn answer(file: &[u8], output: &mut [u8]) -> u8 {
 
 /// Steps taken and steps refused; each count stays at its largest value once there.
 #[derive(Clone, Copy, Debug, Default, PartialEq, Eq)]
+#[repr(C)]
 pub struct Tally {
     pub taken: u32,
     pub refused: u32,
@@ -62,15 +62,14 @@ pub struct Tally {
 
 /// The same as `answer`, with the run's steps counted. A refusal leaves the tally alone.
 pub fn answer_counted(file: &[u8], output: &mut [u8], tally: &mut Tally) -> u8 {
-    // As in `answer`; the two counts are two fields.
+    // As in `answer`; a tally has the layout that the library takes.
     unsafe {
         gondzselu_answer_counted(
             file.as_ptr(),
             file.len(),
             output.as_mut_ptr(),
             output.len(),
-            &mut tally.taken,
-            &mut tally.refused,
+            tally,
         )
     }
 }
