@@ -11,7 +11,7 @@ use Rattle.tally.specs.declared.Tally.{Tally}
 use Rattle.tally.specs.Tally.{counted, isTaken, countedSteps, takenIn, refusedIn}
 use Rattle.tally.proofs.TallyLaws.{Fits, counted-none, all-at-once}
 use Rattle.runfile.specs.declared.Answered.{Answered}
-use Rattle.runfile.specs.Run.{answersIn, takenOf, refusedOf, answerRefusal, answeredOf}
+use Rattle.runfile.specs.Run.{answersIn, isRefused, takenOf, refusedOf, answerRefusal, answeredOf}
 use Rattle.firmware.specs.RunTally.{ranTally}
 
 -- the refusal, where it is 0 and where it is not
@@ -37,7 +37,7 @@ refusal-is file out = go (eqb (answerRefusal file out) 0) refl
 
 -- a run's steps counted at once: as one by one
 pub ran-one-by-one : (file out : List ℕ) (t : Tally) → Fits t → answerRefusal file out ≡ 0 → ranTally file out t ≡ countedSteps t (map (λ a. a .result) (answersIn file))
-unfolding ranTally takenIn refusedIn isTaken
+unfolding ranTally takenIn refusedIn isRefused
 ran-one-by-one file out t f e =
     ap (λ s. counted t (s .taken) (s .refused)) (said-is file out true (eq-eqb (answerRefusal file out) 0 e))
     ∙ ap₂ (counted t)
