@@ -37,7 +37,7 @@ refusal-is file out = go (eqb (answerRefusal file out) 0) refl
 
 -- a run's steps counted at once: as one by one
 pub ran-one-by-one : (file out : List ℕ) (t : Tally) → Fits t → answerRefusal file out ≡ 0 → ranTally file out t ≡ countedSteps t (map (λ a. a .result) (answersIn file))
-unfolding ranTally takenIn refusedIn isTaken isRefused
+unfolding ranTally takenIn refusedIn isRefused
 ran-one-by-one file out t f e =
     ap (λ s. counted t (s .taken) (s .refused)) (said-is file out true (eq-eqb (answerRefusal file out) 0 e))
     ∙ ap₂ (counted t)

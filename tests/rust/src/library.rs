@@ -3,6 +3,8 @@
 
 pub mod memory;
 pub mod states;
+mod stretch;
+pub mod words;
 
 use gondzselu::{Doing, Store, Tally};
 

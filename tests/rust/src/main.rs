@@ -149,7 +149,7 @@ fn self_checks(seed: &str, count: &str) -> Result<(), String> {
 #[cfg(feature = "library")]
 fn states(seed: &str, count: &str) -> Result<(), String> {
     library::compare_named()?;
-    let words = library::states::compare_words()?;
+    let words = library::words::compare()?;
     let (seed, count) = (number(seed)?, number(count)?);
     let mut compared = library::states::Compared::default();
     for item in 0..count {

@@ -1,0 +1,269 @@
+//! Single words of the memories, each at its limit and past it.
+
+use gondzselu::Store;
+
+use super::memory::{self, written};
+use crate::model::channel::{Body, Message, Tagged};
+use crate::model::placement::Placement;
+use crate::model::{Cards, Request, State};
+use crate::random::Random;
+
+/// Eight cards, 32 registers and 16 tasks, with a message in every kind of place.
+fn full() -> State {
+    let homes: Vec<u8> = (0..16).map(|task| task % 8).collect();
+    let placement = Placement::new(8, &homes, &[(255, 0); 32]);
+    let mut state = State::start(placement).expect("an accepted placement");
+    let body = Body::Request(Request::Update {
+        register: 31,
+        function: 1,
+        operand: 9,
+    });
+    let message = |task: usize, to: Cards| Message { task, to, body };
+    let tagged = |task: usize, to: Cards| Tagged {
+        message: message(task, to),
+        tag: 71,
+    };
+    let channel = &mut state.channel;
+    channel.made = 70;
+    channel.taken.fill(70);
+    channel.recent = vec![message(0, 3); 64].into();
+    channel.outbox[3].push_back(message(3, 255));
+    channel.inbox[5].push_back(message(4, 32));
+    channel.held[6].push(tagged(5, 64));
+    channel.flight[7] = Some(tagged(7, 1));
+    state
+}
+
+/// One word of a memory, and whether the store is well sized with each of some values in it.
+struct Row {
+    name: &'static str,
+    channel: bool,
+    at: usize,
+    values: Vec<(u32, bool)>,
+}
+
+const MOST: u32 = u32::MAX;
+
+/// At its limit and past it, word by word.
+fn rows(store: &Store) -> Vec<Row> {
+    let (words, c) = (&store.registers, &store.channel);
+    let mut rows = Vec::new();
+    let mut row = |name: &'static str, channel: bool, at: usize, values: &[(u32, bool)]| {
+        let values = values.to_vec();
+        rows.push(Row {
+            name,
+            channel,
+            at,
+            values,
+        });
+    };
+    row(
+        "cards",
+        true,
+        memory::CARDS,
+        &[(8, true), (0, false), (9, false), (MOST, false)],
+    );
+    row(
+        "tasks",
+        true,
+        memory::TASKS,
+        &[(16, true), (0, false), (17, false), (MOST, false)],
+    );
+    row(
+        "registers",
+        true,
+        memory::REGISTERS,
+        &[(32, true), (0, false), (33, false)],
+    );
+    row(
+        "made",
+        true,
+        memory::MADE,
+        &[(70, true), (69, false), (65_536, false), (MOST, false)],
+    );
+    let card = memory::card(2);
+    row(
+        "taken",
+        true,
+        card,
+        &[
+            (70, true),
+            (6, true),
+            (5, false),
+            (71, false),
+            (MOST, false),
+        ],
+    );
+    row(
+        "inbox start",
+        true,
+        card + 1,
+        &[(0, true), (47, true), (48, false), (MOST, false)],
+    );
+    row(
+        "inbox length",
+        true,
+        card + 2,
+        &[(0, true), (49, false), (MOST, false)],
+    );
+    row(
+        "held length",
+        true,
+        card + 3,
+        &[(0, true), (17, false), (MOST, false)],
+    );
+    row(
+        "requests",
+        false,
+        memory::REQUESTS,
+        &[(65_535, true), (65_536, false), (MOST, false)],
+    );
+    let task = memory::task(9);
+    row(
+        "home",
+        false,
+        task,
+        &[(0, true), (7, true), (8, false), (MOST, false)],
+    );
+    let kinds = [
+        (0, true),
+        (1, true),
+        (3, true),
+        (4, true),
+        (5, true),
+        (6, false),
+        (MOST, false),
+    ];
+    row("doing", false, task + 1, &kinds);
+    row("function 0 asked", false, task + 1, &[(2, false)]);
+    row(
+        "holders",
+        false,
+        memory::HOLDERS + 31,
+        &[(255, true), (0, true), (256, false), (MOST, false)],
+    );
+    row(
+        "primary",
+        false,
+        memory::PRIMARY + 31,
+        &[(7, true), (8, false), (MOST, false)],
+    );
+    let outbox = memory::outbox(2);
+    row(
+        "outbox start",
+        false,
+        outbox,
+        &[(0, true), (15, true), (16, false), (MOST, false)],
+    );
+    row(
+        "outbox length",
+        false,
+        outbox + 1,
+        &[(0, true), (17, false), (MOST, false)],
+    );
+    let blocks = [
+        (
+            "outbox",
+            false,
+            memory::outbox_block(3, words[memory::outbox(3)] as usize),
+        ),
+        (
+            "inbox",
+            true,
+            memory::inbox_block(5, c[memory::card(5) + 1] as usize),
+        ),
+        ("held", true, memory::held_block(6, 0)),
+        ("flight", true, memory::flight_block(7)),
+        ("broadcast", true, memory::broadcast_block(70)),
+    ];
+    for (name, channel, at) in blocks {
+        let flight = name == "flight";
+        let kinds = [
+            (0, flight),
+            (1, true),
+            (2, true),
+            (3, true),
+            (4, true),
+            (5, false),
+            (MOST, false),
+        ];
+        row(name, channel, at + memory::KIND, &kinds);
+        row(
+            name,
+            channel,
+            at + 1,
+            &[(15, !flight), (16, false), (MOST, false)],
+        );
+        row(
+            name,
+            channel,
+            at + 2,
+            &[(0, true), (31, true), (32, false), (MOST, false)],
+        );
+        row(
+            name,
+            channel,
+            at + 3,
+            &[(1, true), (4, true), (0, false), (5, false), (MOST, false)],
+        );
+        row(name, channel, at + 4, &[(0, true), (MOST, true)]);
+        // What leaves an outbox has its card for sender, whatever stands there.
+        let past = name == "outbox";
+        row(
+            name,
+            channel,
+            at + memory::SENDER,
+            &[(7, true), (8, past), (MOST, past)],
+        );
+        row(
+            name,
+            channel,
+            at + 6,
+            &[(0, false), (256, false), (MOST, false)],
+        );
+    }
+    for (name, channel, at) in [blocks[2], blocks[3]] {
+        row(
+            name,
+            channel,
+            at + memory::TAG,
+            &[(0, true), (65_535, true), (65_536, false), (MOST, false)],
+        );
+    }
+    rows
+}
+
+/// Compares word by word; says how many states were tried.
+pub fn compare() -> Result<usize, String> {
+    let mut tried = 0;
+    let mut random = Random::new(0, 0);
+    let state = full();
+    for _ in 0..16 {
+        let store = written(&state, &mut random);
+        for Row {
+            name,
+            channel,
+            at,
+            values,
+        } in rows(&store)
+        {
+            for (value, fine) in values {
+                let mut changed = store.clone();
+                let words: &mut [u32] = if channel {
+                    &mut changed.channel
+                } else {
+                    &mut changed.registers
+                };
+                words[at] = value;
+                let before = changed.clone();
+                // An unknown code meets 10, and 6 comes first.
+                let answer = changed.step(0, [0; 8]);
+                if answer != (if fine { 10 } else { 6 }, 0) || changed != before {
+                    return Err(format!("{name}, word {at} is {value}: {answer:?}"));
+                }
+                tried += 1;
+            }
+        }
+    }
+    Ok(tried)
+}
