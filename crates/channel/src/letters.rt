@@ -1,6 +1,7 @@
 // Letters in blocks of eight words: kind, task, register, function, value, sender, destinations, tag.
 ghost use mathlib.Core.Path.{_≡_};
-ghost use Prim.Native.Nat.{_<_, _≤_};
+ghost use Prim.Native.Nat.{_<_, _≤_, _+_, _*_};
+ghost use lib.ListN.{getD};
 ghost use Rattle.names.specs.Letters.{letterAt, kindAt, tagAt, stored};
 ghost use Rattle.channel.specs.Letters.{addressed, fits};
 use super::layout::cards;
@@ -12,6 +13,14 @@ use names::Letter;
 use names::Message;
 use names::Register;
 use names::Task;
+
+// Word k of a block.
+fn word(memory: &[u32; 4808], block: usize, k: usize) -> u32
+    requires { ⌜ (block < 601) × (k < 8) ⌝ }
+    ensures { λ r. ⌜ r ≡ getD (now (memory .entry)) (block * 8 + k) 0 ⌝ }
+{
+    memory[block * 8 + k]
+}
 
 // The kind, the destinations and the tag in a block.
 pub(crate) fn kind_at(memory: &[u32; 4808], block: usize) -> u32
@@ -40,14 +49,13 @@ pub(crate) fn load(memory: &[u32; 4808], block: usize) -> Letter
     requires { ⌜ block < 601 ⌝ }
     ensures { λ r. ⌜ r ≡ letterAt (now (memory .entry)) block ⌝ }
 {
-    let at = block * 8;
-    let kind = memory[at];
-    let task = Task(memory[at + 1]);
-    let register = Register(memory[at + 2]);
-    let function = memory[at + 3];
-    let value = memory[at + 4];
-    let from = Card(memory[at + 5]);
-    let to = memory[at + 6];
+    let kind = kind_at(memory, block);
+    let task = Task(word(memory, block, 1));
+    let register = Register(word(memory, block, 2));
+    let function = word(memory, block, 3);
+    let value = word(memory, block, 4);
+    let from = Card(word(memory, block, 5));
+    let to = word(memory, block, 6);
     let body = names::letters::body_of(kind, function, value);
     let message = Message {
         task: task,

@@ -1,102 +1,46 @@
-use borrow.Author.Needs.{needs}
 use Rattle.names.specs.Letters.{letterAt}
+use borrow.Author.Needs.{needs}
 use Rattle.channel.proofs.letters.load.Statement.{statement}
 use Rattle.channel.proofs.letters.load.Tie as tie
 
-mul-at : tie.Need-mul-at
-mul-at c = search needs
+kind-at-requires : tie.Need-kind-at-requires
+kind-at-requires c κs = search needs
 
-mul-kind : tie.Need-mul-kind
-mul-kind c = search needs
+word-requires : tie.Need-word-requires
+word-requires c κs = search needs
 
-element-copy-out-kind : tie.Need-element-copy-out-kind
-element-copy-out-kind c = search needs
+word-requires-2 : tie.Need-word-requires-2
+word-requires-2 c κs = search needs
 
-add-function : tie.Need-add-function
-add-function c = search needs
+word-requires-3 : tie.Need-word-requires-3
+word-requires-3 c κs = search needs
 
-mul-function : tie.Need-mul-function
-mul-function c = search needs
+word-requires-4 : tie.Need-word-requires-4
+word-requires-4 c κs = search needs
 
-element-copy-out-function : tie.Need-element-copy-out-function
-element-copy-out-function c = search needs
+word-requires-5 : tie.Need-word-requires-5
+word-requires-5 c κs = search needs
 
-add-function-2 : tie.Need-add-function-2
-add-function-2 c = search needs
-
-mul-function-2 : tie.Need-mul-function-2
-mul-function-2 c = search needs
-
-element-copy-out-function-2 : tie.Need-element-copy-out-function-2
-element-copy-out-function-2 c = search needs
-
-add-function-3 : tie.Need-add-function-3
-add-function-3 c = search needs
-
-mul-function-3 : tie.Need-mul-function-3
-mul-function-3 c = search needs
-
-element-copy-out-function-3 : tie.Need-element-copy-out-function-3
-element-copy-out-function-3 c = search needs
-
-add-value : tie.Need-add-value
-add-value c = search needs
-
-mul-value : tie.Need-mul-value
-mul-value c = search needs
-
-element-copy-out-value : tie.Need-element-copy-out-value
-element-copy-out-value c = search needs
-
-add-to : tie.Need-add-to
-add-to c = search needs
-
-mul-to : tie.Need-mul-to
-mul-to c = search needs
-
-element-copy-out-to : tie.Need-element-copy-out-to
-element-copy-out-to c = search needs
-
-add-to-2 : tie.Need-add-to-2
-add-to-2 c = search needs
-
-mul-to-2 : tie.Need-mul-to-2
-mul-to-2 c = search needs
-
-element-copy-out-to-2 : tie.Need-element-copy-out-to-2
-element-copy-out-to-2 c = search needs
+word-requires-6 : tie.Need-word-requires-6
+word-requires-6 c κs = search needs
 
 body-of-requires : tie.Need-body-of-requires
 body-of-requires c κs = search needs
 
 returns : tie.Need-returns
 unfolding letterAt
-returns c = simp (c .body-of .ensures)
+returns c = simp (c .body-of .ensures, c .before .before .before .before .before .before .before .kind-at .ensures, c .before .before .before .before .before .before .word .ensures, c .before .before .before .before .before .word2 .ensures, c .before .before .before .before .word3 .ensures, c .before .before .before .word4 .ensures, c .before .before .word5 .ensures, c .before .word6 .ensures)
 
 pub load-spec : {M : Type 1} → statement M
 load-spec =
     tie.close
     (tie.spec
-    mul-at
-    mul-kind
-    element-copy-out-kind
-    add-function
-    mul-function
-    element-copy-out-function
-    add-function-2
-    mul-function-2
-    element-copy-out-function-2
-    add-function-3
-    mul-function-3
-    element-copy-out-function-3
-    add-value
-    mul-value
-    element-copy-out-value
-    add-to
-    mul-to
-    element-copy-out-to
-    add-to-2
-    mul-to-2
-    element-copy-out-to-2
+    kind-at-requires
+    word-requires
+    word-requires-2
+    word-requires-3
+    word-requires-4
+    word-requires-5
+    word-requires-6
     body-of-requires
     returns)
