@@ -3,15 +3,13 @@ ghost use mathlib.Core.Path.{_≡_};
 ghost use Prim.Native.Nat.{_<_, _≤_};
 ghost use Rattle.channel.specs.Inbox.{pushed, popped, gotOf, receiveAnswer, receiveMemory};
 use super::layout::BLOCKS;
-use super::layout::COUNT;
-use super::layout::FIRST;
-use super::layout::HEAD;
 use super::layout::INBOX;
-use super::layout::PART;
 use super::layout::cards;
 use super::layout::count_of;
 use super::layout::head_of;
 use super::layout::place_of;
+use super::layout::set_count;
+use super::layout::set_head;
 use super::letters::load;
 use super::letters::store;
 use crate::Received;
@@ -34,7 +32,7 @@ pub(crate) fn push(memory: &mut [u32; 4808], i: usize, letter: Letter)
         letter,
         BroadcastNumber(0),
     );
-    memory[FIRST + i * PART + COUNT] = count + 1;
+    set_count(memory, i, count + 1);
 }
 
 // The message of the first letter of a card's inbox.
@@ -61,9 +59,8 @@ fn drop_first(memory: &mut [u32; 4808], i: usize)
     if count == 0 {
         return;
     }
-    let at = FIRST + i * PART;
-    memory[at + HEAD] = (head % 48 + 1) % 48;
-    memory[at + COUNT] = count - 1;
+    set_head(memory, i, (head % 48 + 1) % 48);
+    set_count(memory, i, count - 1);
 }
 
 // The first letter of a card's inbox leaves it, and its message is handed up.

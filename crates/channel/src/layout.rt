@@ -1,7 +1,8 @@
 // Where things lie in the channel's memory, its sizes, and its start.
 ghost use mathlib.Core.Path.{_≡_};
 ghost use Prim.Native.Nat.{_<_, _≤_, min};
-ghost use Rattle.channel.specs.Layout.{cardsOf, tasksOf, registersOf, madeOf, takenOf, headOf, countOf, heldCountOf, placeOf, heldBlock, takenBy};
+ghost use lib.ListN.{set};
+ghost use Rattle.channel.specs.Layout.{cardsOf, tasksOf, registersOf, madeOf, takenOf, headOf, countOf, heldCountOf, headWord, countWord, heldWord, placeOf, heldBlock, takenBy};
 ghost use Rattle.channel.specs.Begin.{sizesFit, beginAnswer, beginMemory};
 use crate::Answer;
 use names::Card;
@@ -110,6 +111,27 @@ pub(crate) fn held_of(memory: &[u32; 4808], i: usize) -> u32
     ensures { λ r. ⌜ r ≡ heldCountOf (now (memory .entry)) i ⌝ }
 {
     memory[FIRST + i * PART + HELD]
+}
+
+pub(crate) fn set_head(memory: &mut [u32; 4808], i: usize, x: u32)
+    requires { ⌜ i < 8 ⌝ }
+    ensures { λ _. ⌜ now (memory .exit) ≡ set (now (memory .entry)) (headWord i) x ⌝ }
+{
+    memory[FIRST + i * PART + HEAD] = x;
+}
+
+pub(crate) fn set_count(memory: &mut [u32; 4808], i: usize, x: u32)
+    requires { ⌜ i < 8 ⌝ }
+    ensures { λ _. ⌜ now (memory .exit) ≡ set (now (memory .entry)) (countWord i) x ⌝ }
+{
+    memory[FIRST + i * PART + COUNT] = x;
+}
+
+pub(crate) fn set_held(memory: &mut [u32; 4808], i: usize, x: u32)
+    requires { ⌜ i < 8 ⌝ }
+    ensures { λ _. ⌜ now (memory .exit) ≡ set (now (memory .entry)) (heldWord i) x ⌝ }
+{
+    memory[FIRST + i * PART + HELD] = x;
 }
 
 // The block of place k of card i's inbox, oldest first.

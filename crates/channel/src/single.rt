@@ -9,11 +9,11 @@ use super::answers::unless_full;
 use super::inbox::push;
 use super::layout::FIRST;
 use super::layout::FLIGHT;
-use super::layout::HELD;
 use super::layout::PART;
 use super::layout::count_of;
 use super::layout::held_block;
 use super::layout::held_of;
+use super::layout::set_held;
 use super::layout::tasks;
 use super::letters::load;
 use super::letters::store;
@@ -62,7 +62,7 @@ fn hold(memory: &mut [u32; 4808], i: usize, letter: Letter, tag: u32)
         letter,
         BroadcastNumber(tag),
     );
-    memory[FIRST + i * PART + HELD] = held + 1;
+    set_held(memory, i, held + 1);
 }
 
 // Task t's message in flight reaches card i, where it joins the inbox or is held.

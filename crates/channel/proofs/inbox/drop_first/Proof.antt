@@ -14,39 +14,22 @@ returns : tie.Need-returns
 unfolding popped
 returns c = simp (rw (c .before .count-of .ensures) at (eq-eqb _ _ (c .if1 .taken)))
 
-mul-at : tie.Need-mul-at
-mul-at c = search needs
+add-set-head : tie.Need-add-set-head
+add-set-head c = search needs
 
-add-at : tie.Need-add-at
-add-at c = search needs
+set-head-requires : tie.Need-set-head-requires
+set-head-requires c κs = search needs
 
-add-memory : tie.Need-add-memory
-add-memory c = search needs
+sub-set-count : tie.Need-sub-set-count
+sub-set-count c = search needs
 
-add-memory-2 : tie.Need-add-memory-2
-add-memory-2 c = search needs
-
-mul-memory : tie.Need-mul-memory
-mul-memory c = search needs
-
-element-write-memory : tie.Need-element-write-memory
-element-write-memory c = search needs
-
-sub-memory : tie.Need-sub-memory
-sub-memory c = search needs
-
-add-memory-3 : tie.Need-add-memory-3
-add-memory-3 c = search needs
-
-mul-memory-2 : tie.Need-mul-memory-2
-mul-memory-2 c = search needs
-
-element-write-memory-2 : tie.Need-element-write-memory-2
-element-write-memory-2 c = search needs
+set-count-requires : tie.Need-set-count-requires
+set-count-requires c κs = search needs
 
 returns-2 : tie.Need-returns-2
 unfolding popped
-returns-2 c = let n = c .before .count-of .ensures in simp (rw n at (ne-eqb _ _ (c .if1 .left)), n, c .before .before .before .head-of .ensures)
+returns-2 c = let n = c .before .before .before .before .before .count-of .ensures in
+    simp (rw n at (ne-eqb _ _ (c .before .before .before .before .if1 .left)), c .set-count .ensures, c .before .before .set-head .ensures, n, c .before .before .before .before .before .before .before .head-of .ensures)
 
 pub drop-first-spec : {M : Type 1} → statement M
 drop-first-spec =
@@ -55,14 +38,8 @@ drop-first-spec =
     head-of-requires
     count-of-requires
     returns
-    mul-at
-    add-at
-    add-memory
-    add-memory-2
-    mul-memory
-    element-write-memory
-    sub-memory
-    add-memory-3
-    mul-memory-2
-    element-write-memory-2
+    add-set-head
+    set-head-requires
+    sub-set-count
+    set-count-requires
     returns-2)

@@ -17,29 +17,16 @@ place-of-requires c κs = search needs
 store-requires : tie.Need-store-requires
 store-requires c κs = search needs
 
-add-memory : tie.Need-add-memory
-add-memory c = search needs
+add-set-count : tie.Need-add-set-count
+add-set-count c = search needs
 
-mul-memory : tie.Need-mul-memory
-mul-memory c = search needs
-
-add-memory-2 : tie.Need-add-memory-2
-add-memory-2 c = search needs
-
-add-memory-3 : tie.Need-add-memory-3
-add-memory-3 c = search needs
-
-mul-memory-2 : tie.Need-mul-memory-2
-mul-memory-2 c = search needs
-
-element-write-memory : tie.Need-element-write-memory
-element-write-memory c = search needs
+set-count-requires : tie.Need-set-count-requires
+set-count-requires c κs = search needs
 
 returns-2 : tie.Need-returns-2
 unfolding pushed
-returns-2 c = let n = c .before .before .before .before .before .count-of .ensures in
-    let z = rw n at (lt-ltb _ _ (c .before .before .before .before .if1 .left)) in
-    simp (z, c .store .ensures, c .before .place-of .ensures .0, n)
+returns-2 c = let n = c .before .before .before .before .before .before .before .count-of .ensures in
+    simp (rw n at (lt-ltb _ _ (c .before .before .before .before .before .before .if1 .left)), c .set-count .ensures, c .before .before .store .ensures, c .before .before .before .place-of .ensures .0, n)
 
 pub push-spec : {M : Type 1} → statement M
 push-spec =
@@ -49,10 +36,6 @@ push-spec =
     returns
     place-of-requires
     store-requires
-    add-memory
-    mul-memory
-    add-memory-2
-    add-memory-3
-    mul-memory-2
-    element-write-memory
+    add-set-count
+    set-count-requires
     returns-2)

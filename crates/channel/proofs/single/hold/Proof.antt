@@ -20,27 +20,16 @@ held-block-requires c κs = search needs
 store-requires : tie.Need-store-requires
 store-requires c κs = search needs
 
-add-memory : tie.Need-add-memory
-add-memory c = search needs
+add-set-held : tie.Need-add-set-held
+add-set-held c = search needs
 
-mul-memory : tie.Need-mul-memory
-mul-memory c = search needs
-
-add-memory-2 : tie.Need-add-memory-2
-add-memory-2 c = search needs
-
-add-memory-3 : tie.Need-add-memory-3
-add-memory-3 c = search needs
-
-mul-memory-2 : tie.Need-mul-memory-2
-mul-memory-2 c = search needs
-
-element-write-memory : tie.Need-element-write-memory
-element-write-memory c = search needs
+set-held-requires : tie.Need-set-held-requires
+set-held-requires c κs = search needs
 
 returns-2 : tie.Need-returns-2
 unfolding heldMore
-returns-2 c = let n = c .before .before .before .before .held-of .ensures in simp (rw n at (lt-ltb _ _ (c .before .before .before .if1 .left)), c .store .ensures, c .before .held-block .ensures .0, n)
+returns-2 c = let n = c .before .before .before .before .before .before .held-of .ensures in
+    simp (rw n at (lt-ltb _ _ (c .before .before .before .before .before .if1 .left)), c .set-held .ensures, c .before .before .store .ensures, c .before .before .before .held-block .ensures .0, n)
 
 pub hold-spec : {M : Type 1} → statement M
 hold-spec =
@@ -51,10 +40,6 @@ hold-spec =
     cast-held-block
     held-block-requires
     store-requires
-    add-memory
-    mul-memory
-    add-memory-2
-    add-memory-3
-    mul-memory-2
-    element-write-memory
+    add-set-held
+    set-held-requires
     returns-2)
