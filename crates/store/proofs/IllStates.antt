@@ -19,14 +19,14 @@ use Rattle.channel.specs.TakeSingle.{noFlight}
 use Rattle.channel.specs.Sized.{blockFits, inboxFits, heldFits, flightFits, broadcastFits, headFits, wellSized}
 use Rattle.channel.proofs.WellSizedParts.{Fit}
 use Rattle.channel.proofs.WellSizedParts as Parts
-use Rattle.channel.proofs.FitQueues.{block-letter}
+use Rattle.channel.proofs.FitQueues.{block-letter, block-tag}
 use Rattle.channel.proofs.Offered.{fits-is}
 use Rattle.store.specs.declared.Doing.{Doing}
 use Rattle.store.specs.declared.Doing.the-variants.{AskingRead, AskingUpdate}
 use Rattle.store.specs.Doings.{doingAt}
 use Rattle.store.specs.Outbox.{outCountOf, outPlace}
 use Rattle.store.specs.Sized.{outgoing, doingFits, outFits, registersSized, storeSized}
-use Rattle.store.specs.IllStates.{PastLimit, absent-task, absent-register, unknown-function, absent-sender, absent-destination, no-destination, Six, IllStates}
+use Rattle.store.specs.IllStates.{PastLimit, absent-task, absent-register, unknown-function, absent-sender, absent-destination, no-destination, PastBlock, past-field, past-tag, Six, IllStates}
 use Rattle.store.proofs.Sizing.{RegistersFit, fit-of}
 use Rattle.store.proofs.StepLaw.{ill-sized}
 
@@ -38,6 +38,10 @@ past cs l e (unknown-function h) = clash (fits-is cs l e .body) h
 past cs l e (absent-sender h) = omega (arith, fits-is cs l e .sender)
 past cs l e (absent-destination h) = omega (arith, fits-is cs l e .present)
 past cs l e (no-destination h) = omega (arith, fits-is cs l e .someone)
+
+past-block : (cs : List ℕ) (b : ℕ) → blockFits cs b ≡ true → PastBlock cs b → ⊥
+past-block cs b e (past-field p) = past cs (letterAt cs b) (block-letter cs b e) p
+past-block cs b e (past-tag h) = omega (arith, block-tag cs b e)
 
 module _ (rs cs : List ℕ) where
   -- what no well-sized memories have is refused
@@ -89,33 +93,32 @@ module _ (rs cs : List ℕ) where
   unfolding outFits
   out-fit e i k h g = and-snd (leb 1 (kindAt rs (outPlace rs i k)) && leb (kindAt rs (outPlace rs i k)) 4) _ (registers-fit e .out i k h g)
 
-  inbox-fit : storeSized rs cs ≡ true → (i k : ℕ) → i < cardsOf cs → k < countOf cs i → fits cs (letterAt cs (placeOf cs i k)) ≡ true
+  inbox-fit : storeSized rs cs ≡ true → (i k : ℕ) → i < cardsOf cs → k < countOf cs i → blockFits cs (placeOf cs i k) ≡ true
   unfolding inboxFits
   inbox-fit e i k h g =
-      block-letter cs (placeOf cs i k) (and-fst (blockFits cs (placeOf cs i k)) (memberOf (letterAt cs (placeOf cs i k) .to) i) (channel-fit e .card i h .inbox k g))
+      and-fst (blockFits cs (placeOf cs i k)) (memberOf (letterAt cs (placeOf cs i k) .to) i) (channel-fit e .card i h .inbox k g)
 
-  held-fit : storeSized rs cs ≡ true → (i k : ℕ) → i < cardsOf cs → k < heldCountOf cs i → fits cs (letterAt cs (heldBlock i k)) ≡ true
+  held-fit : storeSized rs cs ≡ true → (i k : ℕ) → i < cardsOf cs → k < heldCountOf cs i → blockFits cs (heldBlock i k) ≡ true
   unfolding heldFits
   held-fit e i k h g =
-      block-letter cs (heldBlock i k) (and-three (blockFits cs (heldBlock i k)) (single (letterAt cs (heldBlock i k) .to)) (memberOf (letterAt cs (heldBlock i k) .to) i)
-      (channel-fit e .card i h .helds k g) .0)
+      and-three (blockFits cs (heldBlock i k)) (single (letterAt cs (heldBlock i k) .to)) (memberOf (letterAt cs (heldBlock i k) .to) i)
+      (channel-fit e .card i h .helds k g) .0
 
-  flight-fit : storeSized rs cs ≡ true → (t : ℕ) → t < tasksOf cs → noFlight cs t ≡ false → fits cs (letterAt cs (flightBlock t)) ≡ true
+  flight-fit : storeSized rs cs ≡ true → (t : ℕ) → t < tasksOf cs → noFlight cs t ≡ false → blockFits cs (flightBlock t) ≡ true
   unfolding flightFits
   flight-fit e t h q = go (noFlight cs t) q (channel-fit e .flight t h)
     where
       go : (b : Bool) → b ≡ false
           → (b || (blockFits cs (flightBlock t) && eqb (letterAt cs (flightBlock t) .message .task .0) t && single (letterAt cs (flightBlock t) .to))) ≡ true
-          → fits cs (letterAt cs (flightBlock t)) ≡ true
+          → blockFits cs (flightBlock t) ≡ true
       go true z f = absurd (clash refl z)
       go false z f =
-          block-letter cs (flightBlock t) (and-three (blockFits cs (flightBlock t)) (eqb (letterAt cs (flightBlock t) .message .task .0) t) (single (letterAt cs (flightBlock t) .to)) f .0)
+          and-three (blockFits cs (flightBlock t)) (eqb (letterAt cs (flightBlock t) .message .task .0) t) (single (letterAt cs (flightBlock t) .to)) f .0
 
-  broadcast-fit : storeSized rs cs ≡ true → (k : ℕ) → k < madeOf cs → k < 64 → fits cs (letterAt cs (broadcastBlock (madeOf cs - k))) ≡ true
+  broadcast-fit : storeSized rs cs ≡ true → (k : ℕ) → k < madeOf cs → k < 64 → blockFits cs (broadcastBlock (madeOf cs - k)) ≡ true
   unfolding broadcastFits
   broadcast-fit e k m h =
-      block-letter cs (broadcastBlock (madeOf cs - k)) (and-fst (blockFits cs (broadcastBlock (madeOf cs - k))) (several (letterAt cs (broadcastBlock (madeOf cs - k)) .to))
-      (channel-fit e .recent k m h))
+      and-fst (blockFits cs (broadcastBlock (madeOf cs - k))) (several (letterAt cs (broadcastBlock (madeOf cs - k)) .to)) (channel-fit e .recent k m h)
 
   pub ill-states : IllStates rs cs
   unfolding doingFits
@@ -142,10 +145,10 @@ module _ (rs cs : List ℕ) where
     function = λ t x f w c q h. six (λ e.
         let l = leb-true f 4 (and-three (ltb (x .0) (registersOf cs)) (leb 1 f) (leb f 4) (asks (AskingUpdate x f w) t c q e) .2) in omega arith);
     out-message = λ i k c g p. six (λ e. past cs _ (out-fit e i k c g) p);
-    inbox-message = λ i k c g p. six (λ e. past cs _ (inbox-fit e i k c g) p);
-    held-message = λ i k c g p. six (λ e. past cs _ (held-fit e i k c g) p);
-    flight-message = λ t c q p. six (λ e. past cs _ (flight-fit e t c q) p);
-    broadcast-message = λ k m h p. six (λ e. past cs _ (broadcast-fit e k m h) p);
+    inbox-message = λ i k c g p. six (λ e. past-block cs _ (inbox-fit e i k c g) p);
+    held-message = λ i k c g p. six (λ e. past-block cs _ (held-fit e i k c g) p);
+    flight-message = λ t c q p. six (λ e. past-block cs _ (flight-fit e t c q) p);
+    broadcast-message = λ k m h p. six (λ e. past-block cs _ (broadcast-fit e k m h) p);
     above = λ i c h. six (λ e. omega (arith, channel-fit e .card i c .behind));
     below = λ i c h. six (λ e. omega (arith, channel-fit e .card i c .near));
   }

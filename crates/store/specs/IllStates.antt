@@ -9,7 +9,7 @@ use mathlib.Core.List.{List}
 use lib.ListN.{getD}
 use Rattle.names.specs.declared.Register.{Register}
 use Rattle.names.specs.declared.Letter.{Letter}
-use Rattle.names.specs.Letters.{letterAt, known}
+use Rattle.names.specs.Letters.{letterAt, tagAt, known}
 use Rattle.channel.specs.Layout.{cardsWord, tasksWord, registersWord, cardsOf, tasksOf, registersOf, madeOf, takenOf, countOf, heldCountOf, placeOf, heldBlock, flightBlock, broadcastBlock}
 use Rattle.channel.specs.TakeSingle.{noFlight}
 use Rattle.claims.specs.Steps.{RawStep}
@@ -28,6 +28,11 @@ pub data PastLimit (cs : List ℕ) (l : Letter) : Type 0 where
   absent-sender : cardsOf cs ≤ l .from .0 → PastLimit cs l
   absent-destination : 2 ^ cardsOf cs ≤ l .to → PastLimit cs l
   no-destination : l .to ≡ 0 → PastLimit cs l
+
+-- a message in a block of the channel's memory: a field past its limit, or a tag ("broadcast numbers .. end at 65,535")
+pub data PastBlock (cs : List ℕ) (b : ℕ) : Type 0 where
+  past-field : PastLimit cs (letterAt cs b) → PastBlock cs b
+  past-tag : 65535 < tagAt cs b → PastBlock cs b
 
 -- every step is refused with 6, and leaves both memories as they were
 abbrev pub Six : List ℕ → List ℕ → Type 0
@@ -60,10 +65,10 @@ pub record IllStates (rs cs : List ℕ) : Type 0 where
   pub function : (t : ℕ) (x : Register) (f w : ℕ) → t < tasksOf cs → doingAt rs t ≡ AskingUpdate x f w → 4 < f → Six rs cs
   -- "destination or message field": of a message in an outbox, in an inbox, held, in flight, or among the last 64 broadcasts
   pub out-message : (i k : ℕ) → i < cardsOf cs → k < outCountOf rs i → PastLimit cs (outgoing rs i (outPlace rs i k)) → Six rs cs
-  pub inbox-message : (i k : ℕ) → i < cardsOf cs → k < countOf cs i → PastLimit cs (letterAt cs (placeOf cs i k)) → Six rs cs
-  pub held-message : (i k : ℕ) → i < cardsOf cs → k < heldCountOf cs i → PastLimit cs (letterAt cs (heldBlock i k)) → Six rs cs
-  pub flight-message : (t : ℕ) → t < tasksOf cs → noFlight cs t ≡ false → PastLimit cs (letterAt cs (flightBlock t)) → Six rs cs
-  pub broadcast-message : (k : ℕ) → k < madeOf cs → k < 64 → PastLimit cs (letterAt cs (broadcastBlock (madeOf cs - k))) → Six rs cs
+  pub inbox-message : (i k : ℕ) → i < cardsOf cs → k < countOf cs i → PastBlock cs (placeOf cs i k) → Six rs cs
+  pub held-message : (i k : ℕ) → i < cardsOf cs → k < heldCountOf cs i → PastBlock cs (heldBlock i k) → Six rs cs
+  pub flight-message : (t : ℕ) → t < tasksOf cs → noFlight cs t ≡ false → PastBlock cs (flightBlock t) → Six rs cs
+  pub broadcast-message : (k : ℕ) → k < madeOf cs → k < 64 → PastBlock cs (broadcastBlock (madeOf cs - k)) → Six rs cs
   -- "a card's number of broadcasts taken when it is above the number made or more than 64 below it"
   pub above : (i : ℕ) → i < cardsOf cs → madeOf cs < takenOf cs i → Six rs cs
   pub below : (i : ℕ) → i < cardsOf cs → takenOf cs i + 64 < madeOf cs → Six rs cs
