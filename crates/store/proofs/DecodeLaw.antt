@@ -20,7 +20,7 @@ use Rattle.store.specs.declared.Command.{Command}
 use Rattle.store.specs.declared.Command.the-variants.{RequestRead, RequestUpdate, Perform, SendRead, SendUpdate, Dispatch, TakeBroadcast, TakeSingle, Deliver, Report}
 use Rattle.store.specs.declared.Decoded.{Decoded}
 use Rattle.store.specs.declared.Decoded.the-variants.{Good, Bad}
-use Rattle.store.specs.Decode.{taskIn, cardIn, registerIn, chosenIn, functionIn, operandIn, restZero, decided, taskNumber, cardNumber, readNumber, chosenNumber, updateNumber, decodeOf}
+use Rattle.store.specs.Decode.{taskIn, cardIn, registerIn, chosenIn, functionIn, operandIn, restZero, decided, aloneNumber, taskNumber, cardNumber, pairNumber, readNumber, chosenNumber, updateNumber, decodeOf}
 
 -- the command, as it is on paper
 abbrev pub commandShown : Command → K.Command
@@ -97,16 +97,16 @@ module _ (P : Placement) (a : List ℕ) where
 
   task-alone : (C : Command) → decodedShown (decided (taskNumber a (tasks P)) C)
       ≡ need (eqb (getD a 1 0) 0 && zeros a (2 ∷ 4 ∷ 5 ∷ 6 ∷ 7 ∷ []) && eqb (getD a 3 0) 0) 11 (need (ltb (getD a 0 0) (tasks P)) 12 (good (commandShown C)))
-  unfolding taskNumber
+  unfolding aloneNumber
   task-alone C = rw (alone-is a) (two 12 (eqb (getD a 1 0) 0) (restZero a) (ltb (getD a 0 0) (tasks P)) C (omega arith))
 
   card-alone : (C : Command) → decodedShown (decided (cardNumber a (P .cards)) C)
       ≡ need (eqb (getD a 1 0) 0 && zeros a (2 ∷ 4 ∷ 5 ∷ 6 ∷ 7 ∷ []) && eqb (getD a 3 0) 0) 11 (need (ltb (getD a 0 0) (P .cards) && true) 14 (good (commandShown C)))
-  unfolding cardNumber
+  unfolding aloneNumber
   card-alone C = rw (alone-is a, and-true (ltb (getD a 0 0) (P .cards))) (two 14 (eqb (getD a 1 0) 0) (restZero a) (ltb (getD a 0 0) (P .cards)) C (omega arith))
 
   at-1 : at 1
-  unfolding decodeOf decode known unnamedZero taskThere registerThere cardThere functionThere namesTask namesCard namesRegister namesChosen namesFunction commandOf readNumber
+  unfolding decodeOf decode known unnamedZero taskThere registerThere cardThere functionThere namesTask namesCard namesRegister namesChosen namesFunction commandOf pairNumber
   at-1 = three 13 (restZero a) (ltb (getD a 0 0) (tasks P)) (ltb (getD a 1 0) (registers P)) (RequestRead (taskIn a) (registerIn a)) (omega arith)
       ∙ ap (λ b. need b 11 (need (ltb (getD a 0 0) (tasks P)) 12 (need (ltb (getD a 1 0) (registers P)) 13 (good (request-read (getD a 0 0) (getD a 1 0)))))) (sym (rest-is a))
 
@@ -120,7 +120,7 @@ module _ (P : Placement) (a : List ℕ) where
   at-3 = task-alone (Perform (taskIn a))
 
   at-4 : at 4
-  unfolding decodeOf decode known unnamedZero taskThere registerThere cardThere functionThere namesTask namesCard namesRegister namesChosen namesFunction commandOf chosenNumber
+  unfolding decodeOf decode known unnamedZero taskThere registerThere cardThere functionThere namesTask namesCard namesRegister namesChosen namesFunction commandOf pairNumber
   at-4 = three 14 (restZero a) (ltb (getD a 0 0) (tasks P)) (ltb (getD a 1 0) (P .cards)) (SendRead (taskIn a) (chosenIn a)) (omega arith)
       ∙ ap (λ b. need b 11 (need (ltb (getD a 0 0) (tasks P)) 12 (need (ltb (getD a 1 0) (P .cards)) 14 (good (send-read (getD a 0 0) (getD a 1 0)))))) (sym (rest-is a))
 
@@ -228,20 +228,20 @@ module _ (cards registers tasks : ℕ) where
   range-five false c d e g C f = λ q. absurd (omega arith)
 
   task-range : (a : List ℕ) (C : Command) → (getD a 0 0 < tasks → InRange (Good C)) → InRange (decided (taskNumber a tasks) C)
-  unfolding taskNumber
+  unfolding aloneNumber
   task-range a C f = range-two 12 (eqb (getD a 1 0) 0) (restZero a) (ltb (getD a 0 0) tasks) C (omega arith) (λ e. f (ltb-true _ _ e))
 
   card-range : (a : List ℕ) (C : Command) → (getD a 0 0 < cards → InRange (Good C)) → InRange (decided (cardNumber a cards) C)
-  unfolding cardNumber
+  unfolding aloneNumber
   card-range a C f = range-two 14 (eqb (getD a 1 0) 0) (restZero a) (ltb (getD a 0 0) cards) C (omega arith) (λ e. f (ltb-true _ _ e))
 
   read-range : (a : List ℕ) → InRange (decided (readNumber a registers tasks) (RequestRead (taskIn a) (registerIn a)))
-  unfolding readNumber
+  unfolding pairNumber
   read-range a = range-three 13 (restZero a) (ltb (getD a 0 0) tasks) (ltb (getD a 1 0) registers) (RequestRead (taskIn a) (registerIn a)) (omega arith)
       (λ e g. (ltb-true _ _ e, ltb-true _ _ g))
 
   chosen-range : (a : List ℕ) → InRange (decided (chosenNumber a cards tasks) (SendRead (taskIn a) (chosenIn a)))
-  unfolding chosenNumber
+  unfolding pairNumber
   chosen-range a = range-three 14 (restZero a) (ltb (getD a 0 0) tasks) (ltb (getD a 1 0) cards) (SendRead (taskIn a) (chosenIn a)) (omega arith)
       (λ e g. (ltb-true _ _ e, ltb-true _ _ g))
 

@@ -46,21 +46,27 @@ decided n c = cond (eqb n 0) (Good c) (Bad n)
 
 -- 11 "an unnamed byte not zero", 12 task, 13 register, 14 card, 15 "function out of range"
 
--- codes 3, 5, 8, 10 name a task alone
-unfoldable pub taskNumber : List ℕ → ℕ → ℕ
-taskNumber a tasks = cond (eqb (byteOf a 1) 0) (cond (restZero a) (cond (ltb (byteOf a 0) tasks) 0 12) 11) 11
+-- byte 0 alone is named, one of so many: 11, then the number of what it names
+unfoldable pub aloneNumber : List ℕ → ℕ → ℕ → ℕ
+aloneNumber a count n = cond (eqb (byteOf a 1) 0) (cond (restZero a) (cond (ltb (byteOf a 0) count) 0 n) 11) 11
 
--- codes 6, 7, 9 name a card alone
-unfoldable pub cardNumber : List ℕ → ℕ → ℕ
-cardNumber a cards = cond (eqb (byteOf a 1) 0) (cond (restZero a) (cond (ltb (byteOf a 0) cards) 0 14) 11) 11
+-- codes 3, 5, 8, 10 name a task alone, codes 6, 7, 9 a card
+abbrev pub taskNumber : List ℕ → ℕ → ℕ
+taskNumber a tasks = aloneNumber a tasks 12
 
--- code 1 names a task and a register
-unfoldable pub readNumber : List ℕ → ℕ → ℕ → ℕ
-readNumber a registers tasks = cond (restZero a) (cond (ltb (byteOf a 0) tasks) (cond (ltb (byteOf a 1) registers) 0 13) 12) 11
+abbrev pub cardNumber : List ℕ → ℕ → ℕ
+cardNumber a cards = aloneNumber a cards 14
 
--- code 4 names a task and a card
-unfoldable pub chosenNumber : List ℕ → ℕ → ℕ → ℕ
-chosenNumber a cards tasks = cond (restZero a) (cond (ltb (byteOf a 0) tasks) (cond (ltb (byteOf a 1) cards) 0 14) 12) 11
+-- a task and, in byte 1, one of so many: 11, then 12, then the number of what byte 1 names
+unfoldable pub pairNumber : List ℕ → ℕ → ℕ → ℕ → ℕ
+pairNumber a tasks count n = cond (restZero a) (cond (ltb (byteOf a 0) tasks) (cond (ltb (byteOf a 1) count) 0 n) 12) 11
+
+-- code 1 names a task and a register, code 4 a task and a card
+abbrev pub readNumber : List ℕ → ℕ → ℕ → ℕ
+readNumber a registers tasks = pairNumber a tasks registers 13
+
+abbrev pub chosenNumber : List ℕ → ℕ → ℕ → ℕ
+chosenNumber a cards tasks = pairNumber a tasks cards 14
 
 -- code 2 names a task, a register, a function and an operand
 unfoldable pub updateNumber : List ℕ → ℕ → ℕ → ℕ

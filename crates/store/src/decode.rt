@@ -2,7 +2,7 @@
 ghost use mathlib.Core.Path.{_≡_};
 ghost use Prim.Native.Nat.{_<_};
 ghost use lib.ListN.{getD};
-ghost use Rattle.store.specs.Decode.{byteOf, taskIn, cardIn, registerIn, chosenIn, functionIn, operandIn, restZero, decided, taskNumber, cardNumber, readNumber, chosenNumber, updateNumber, decodeOf};
+ghost use Rattle.store.specs.Decode.{byteOf, taskIn, cardIn, registerIn, chosenIn, functionIn, operandIn, restZero, decided, aloneNumber, pairNumber, readNumber, chosenNumber, updateNumber, decodeOf};
 ghost use Rattle.store.specs.declared.Command.the-variants.{RequestRead, RequestUpdate, SendRead};
 use crate::Command;
 use crate::Decoded;
@@ -48,9 +48,9 @@ fn decided(number: u8, command: Command) -> Decoded
     Decoded::Bad(number)
 }
 
-// 0, or the refusal of an argument that names a task alone.
-fn task_number(argument: [u8; 8], tasks: u32) -> u8
-    ensures { λ r. ⌜ r ≡ taskNumber argument tasks ⌝ }
+// 0, or the refusal of an argument that names in byte 0 alone one of so many: 11, then the number of what it names.
+fn alone_number(argument: [u8; 8], count: u32, number: u8) -> u8
+    ensures { λ r. ⌜ r ≡ aloneNumber argument count number ⌝ }
 {
     if byte(argument, 1) != 0 {
         return 11;
@@ -58,31 +58,15 @@ fn task_number(argument: [u8; 8], tasks: u32) -> u8
     if !rest_zero(argument) {
         return 11;
     }
-    if tasks <= byte(argument, 0) {
-        return 12;
+    if count <= byte(argument, 0) {
+        return number;
     }
     0
 }
 
-// A card alone.
-fn card_number(argument: [u8; 8], cards: u32) -> u8
-    ensures { λ r. ⌜ r ≡ cardNumber argument cards ⌝ }
-{
-    if byte(argument, 1) != 0 {
-        return 11;
-    }
-    if !rest_zero(argument) {
-        return 11;
-    }
-    if cards <= byte(argument, 0) {
-        return 14;
-    }
-    0
-}
-
-// A task and a register.
-fn read_number(argument: [u8; 8], registers: u32, tasks: u32) -> u8
-    ensures { λ r. ⌜ r ≡ readNumber argument registers tasks ⌝ }
+// A task and, in byte 1, one of so many.
+fn pair_number(argument: [u8; 8], tasks: u32, count: u32, number: u8) -> u8
+    ensures { λ r. ⌜ r ≡ pairNumber argument tasks count number ⌝ }
 {
     if !rest_zero(argument) {
         return 11;
@@ -90,24 +74,8 @@ fn read_number(argument: [u8; 8], registers: u32, tasks: u32) -> u8
     if tasks <= byte(argument, 0) {
         return 12;
     }
-    if registers <= byte(argument, 1) {
-        return 13;
-    }
-    0
-}
-
-// A task and a chosen card.
-fn chosen_number(argument: [u8; 8], cards: u32, tasks: u32) -> u8
-    ensures { λ r. ⌜ r ≡ chosenNumber argument cards tasks ⌝ }
-{
-    if !rest_zero(argument) {
-        return 11;
-    }
-    if tasks <= byte(argument, 0) {
-        return 12;
-    }
-    if cards <= byte(argument, 1) {
-        return 14;
+    if count <= byte(argument, 1) {
+        return number;
     }
     0
 }
@@ -140,7 +108,7 @@ fn request_read(argument: [u8; 8], registers: u32, tasks: u32) -> Decoded
     let task = Task(byte(argument, 0));
     let register = Register(byte(argument, 1));
     decided(
-        read_number(argument, registers, tasks),
+        pair_number(argument, tasks, registers, 13),
         Command::RequestRead(task, register),
     )
 }
@@ -162,7 +130,7 @@ fn send_read(argument: [u8; 8], cards: u32, tasks: u32) -> Decoded
     let task = Task(byte(argument, 0));
     let chosen = Card(byte(argument, 1));
     decided(
-        chosen_number(argument, cards, tasks),
+        pair_number(argument, tasks, cards, 14),
         Command::SendRead(task, chosen),
     )
 }
@@ -187,32 +155,32 @@ pub(crate) fn decode(code: u8, argument: [u8; 8], cards: u32, registers: u32, ta
         1 => request_read(argument, registers, tasks),
         2 => request_update(argument, registers, tasks),
         3 => decided(
-            task_number(argument, tasks),
+            alone_number(argument, tasks, 12),
             Command::Perform(task_in(argument)),
         ),
         4 => send_read(argument, cards, tasks),
         5 => decided(
-            task_number(argument, tasks),
+            alone_number(argument, tasks, 12),
             Command::SendUpdate(task_in(argument)),
         ),
         6 => decided(
-            card_number(argument, cards),
+            alone_number(argument, cards, 14),
             Command::Dispatch(card_in(argument)),
         ),
         7 => decided(
-            card_number(argument, cards),
+            alone_number(argument, cards, 14),
             Command::TakeBroadcast(card_in(argument)),
         ),
         8 => decided(
-            task_number(argument, tasks),
+            alone_number(argument, tasks, 12),
             Command::TakeSingle(task_in(argument)),
         ),
         9 => decided(
-            card_number(argument, cards),
+            alone_number(argument, cards, 14),
             Command::Deliver(card_in(argument)),
         ),
         10 => decided(
-            task_number(argument, tasks),
+            alone_number(argument, tasks, 12),
             Command::Report(task_in(argument)),
         ),
         0 | 11..=255 => Decoded::Bad(10),

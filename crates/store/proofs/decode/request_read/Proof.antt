@@ -8,16 +8,16 @@ byte-requires c κs = search needs
 byte-requires-2 : tie.Need-byte-requires-2
 byte-requires-2 c κs = search needs
 
-read-number-requires : tie.Need-read-number-requires
-read-number-requires c κs = search needs
+pair-number-requires : tie.Need-pair-number-requires
+pair-number-requires c κs = search needs
 
 decided-requires : tie.Need-decided-requires
 decided-requires c κs = search needs
 
 returns : tie.Need-returns
-returns c = rw (c .before .read-number .ensures, c .before .before .before .byte .ensures .0, c .before .before .byte2 .ensures .0) at (c .decided .ensures)
+returns c = rw (c .before .pair-number .ensures, c .before .before .before .byte .ensures .0, c .before .before .byte2 .ensures .0) at (c .decided .ensures)
 
 pub request-read-spec : {M : Type 1} → statement M
 request-read-spec =
     tie.close
-    (tie.spec byte-requires byte-requires-2 read-number-requires decided-requires returns)
+    (tie.spec byte-requires byte-requires-2 pair-number-requires decided-requires returns)
