@@ -67,6 +67,11 @@ uint8_t gondzselu_start(uint32_t *registers, uint32_t *channel, uint32_t cards,
                         const uint8_t *copies, size_t copies_length,
                         const uint8_t *primaries, size_t primaries_length);
 
+/* The same from the placement in a run file, whose steps are not taken. Gives 0, or 1 to 4
+ * with both memories as they were. */
+uint8_t gondzselu_start_file(uint32_t *registers, uint32_t *channel,
+                             const uint8_t *file, size_t file_length);
+
 /* Takes one of the ten steps: a code and its eight argument bytes. Gives 0, or 6 to 35 with
  * both memories as they were. The value is what a reported read gave, and 0 otherwise. */
 uint8_t gondzselu_step(uint32_t *registers, uint32_t *channel, uint8_t code,

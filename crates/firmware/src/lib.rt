@@ -8,7 +8,8 @@ ghost use Rattle.store.specs.Start.{startRegisters, startChannel};
 ghost use Rattle.store.specs.Step.{stepped};
 ghost use Rattle.store.specs.Panel.{valueShown, doingShown};
 ghost use Rattle.store.specs.Doings.{doingKind, doingValue};
-ghost use Rattle.runfile.specs.Run.{answerRefusal, answerOutput};
+ghost use Rattle.runfile.specs.RunFile.{fileRefusal};
+ghost use Rattle.runfile.specs.Run.{fileRegisters, fileChannel, answerRefusal, answerOutput};
 ghost use Rattle.firmware.specs.RunTally.{ranTally};
 use names::Card;
 use names::Register;
@@ -72,6 +73,20 @@ pub extern "C" fn gondzselu_start(
     ensures number { λ r. ⌜ r ≡ placementRefusal (placement cards (now (homes .entry)) (now (copies .entry)) (now (primaries .entry))) ⌝ }
 {
     store::start(registers, channel, cards, homes, copies, primaries)
+}
+
+// Begins a store from the placement in a run file: 0, or the refusal of the file (1 to 4) and both memories as they were.
+#[no_mangle]
+pub extern "C" fn gondzselu_start_file(
+    registers: &mut [u32; 1544],
+    channel: &mut [u32; 4808],
+    file: &[u8],
+) -> u8
+    ensures registers { λ _. ⌜ now (registers .exit) ≡ fileRegisters (now (file .entry)) (now (registers .entry)) ⌝ }
+    ensures channel { λ _. ⌜ now (channel .exit) ≡ fileChannel (now (file .entry)) (now (channel .entry)) ⌝ }
+    ensures number { λ r. ⌜ r ≡ fileRefusal (now (file .entry)) ⌝ }
+{
+    runfile::start(file, registers, channel)
 }
 
 // One step: its result, 0 where it is taken, and its value.

@@ -13,13 +13,14 @@ use Rattle.lists.specs.Histories.{In}
 use Rattle.names.specs.declared.Answer.{Answer}
 use Rattle.claims.specs.Published.{begin}
 use Rattle.claims.specs.SerialOrder.{SerialOrder}
+use Rattle.store.specs.Demand2.{Stands}
 use Rattle.store.specs.Run.{Store, started, storeAfter, answersOf, tableOf}
 use Rattle.store.proofs.StartLaw.{start-stands}
 use Rattle.store.proofs.Demand3.{answers-same, store-demand-3}
 use Rattle.runfile.specs.RunFile.{stepsIn, placementIn, runFileIn, fileRefusal, joined}
 use Rattle.runfile.specs.AnswerFile.{fourBytes, answerBytes, answered}
 use Rattle.tally.specs.Tally.{isTaken}
-use Rattle.runfile.specs.Run.{answersIn, isRefused, answerOf, answerRefusal, answerOutput, takenOf, refusedOf}
+use Rattle.runfile.specs.Run.{fileRegisters, fileChannel, answersIn, isRefused, answerOf, answerRefusal, answerOutput, takenOf, refusedOf}
 use Rattle.runfile.specs.FileRun.{FileRun}
 use Rattle.runfile.proofs.RunFileLaws.{accepted-placement, accepted-steps}
 use Rattle.runfile.proofs.AnswersFrom.{one-each, no-six}
@@ -41,7 +42,17 @@ bytes-length l =
     let e = length-append (map result l) (joined (map (λ a. fourBytes (a .value)) l)) in
     omega arith
 
+not-begun : (file : List ℕ) → fileRefusal file ≢ 0 → (rs cs : List ℕ) → (fileRegisters file rs ≡ rs) × (fileChannel file cs ≡ cs)
+unfolding fileRegisters fileChannel
+not-begun file n rs cs = let z = ne-eqb (fileRefusal file) 0 n in (rw z, rw z)
+
 module _ (file : List ℕ) (ok : fileRefusal file ≡ 0) where
+  begun : (rs cs : List ℕ) → Stands (fileRegisters file rs) (fileChannel file cs) (placementIn file) begin
+  unfolding fileRegisters fileChannel
+  begun rs cs =
+      rw (eq-eqb (fileRefusal file) 0 ok)
+      (start-stands (placementIn file) (accepted-placement file ok) (record { registers = rs; channel = cs }))
+
   answers-count : length (answersIn file) ≡ stepsIn file
   unfolding answersIn
   answers-count = one-each (placementIn file) begin (runFileIn file .steps) ∙ accepted-steps file ok
@@ -91,6 +102,8 @@ never-six file ok a h = no-six (placementIn file) (accepted-placement file ok) [
 
 pub file-run : FileRun
 file-run = record {
+  begun = begun;
+  not-begun = not-begun;
   answer-length = answer-length;
   answer-written = answer-written;
   output-untouched = output-untouched;

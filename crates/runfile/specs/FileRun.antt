@@ -6,12 +6,17 @@ use mathlib.Core.List.{List, _++_}
 use lib.ListN.{length, drop}
 use Rattle.lists.specs.Histories.{In}
 use Rattle.names.specs.declared.Answer.{Answer}
+use Rattle.claims.specs.Published.{begin}
 use Rattle.claims.specs.SerialOrder.{SerialOrder}
+use Rattle.store.specs.Demand2.{Stands}
 use Rattle.store.specs.Run.{Store, started, storeAfter, answersOf, tableOf}
 use Rattle.runfile.specs.RunFile.{stepsIn, placementIn, runFileIn, fileRefusal}
-use Rattle.runfile.specs.Run.{answersIn, answerOf, answerRefusal, answerOutput, takenOf, refusedOf}
+use Rattle.runfile.specs.Run.{fileRegisters, fileChannel, answersIn, answerOf, answerRefusal, answerOutput, takenOf, refusedOf}
 
 pub record FileRun : Type 0 where
+  -- a store begun from an accepted file stands at the beginning of its placement; a refused file leaves both memories as they were
+  pub begun : (file : List ℕ) → fileRefusal file ≡ 0 → (rs cs : List ℕ) → Stands (fileRegisters file rs) (fileChannel file cs) (placementIn file) begin
+  pub not-begun : (file : List ℕ) → fileRefusal file ≢ 0 → (rs cs : List ℕ) → (fileRegisters file rs ≡ rs) × (fileChannel file cs ≡ cs)
   -- "N (two bytes), then two parallel arrays over steps": an answer for each step
   pub answer-length : (file : List ℕ) → fileRefusal file ≡ 0 → length (answerOf file) ≡ 2 + 5 * stepsIn file
   -- the output begins with the answer file; "bytes past 2 + 5N are untouched"

@@ -9,9 +9,17 @@ use Rattle.names.specs.declared.Answer.{Answer}
 use Rattle.tally.specs.Tally.{isTaken}
 use Rattle.claims.specs.Published.{begin}
 use Rattle.claims.specs.PublishedRun.{answersFrom}
+use Rattle.store.specs.Start.{startRegisters, startChannel}
 use Rattle.runfile.specs.declared.Answered.{Answered}
 use Rattle.runfile.specs.RunFile.{stepsIn, placementIn, runFileIn, fileRefusal}
 use Rattle.runfile.specs.AnswerFile.{answerBytes, answered}
+
+-- a start from an accepted file is the start from its placement; a refused file begins no state
+unfoldable pub fileRegisters : List ℕ → List ℕ → List ℕ
+fileRegisters file rs = cond (eqb (fileRefusal file) 0) (startRegisters (placementIn file) rs) rs
+
+unfoldable pub fileChannel : List ℕ → List ℕ → List ℕ
+fileChannel file cs = cond (eqb (fileRefusal file) 0) (startChannel (placementIn file) cs) cs
 
 -- what the published algorithm answers to the steps of a file, begun from its placement
 unfoldable pub answersIn : List ℕ → List Answer

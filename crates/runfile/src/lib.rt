@@ -14,6 +14,7 @@ mod run;
 
 pub use run::answer;
 pub use run::reply;
+pub use run::start;
 
 // The sizes that a run file gives first.
 pub struct Sizes {

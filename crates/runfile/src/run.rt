@@ -8,7 +8,7 @@ ghost use Rattle.runfile.specs.RunFile.{stepsIn, codesAt, argumentsAt, f
 ghost use Rattle.runfile.specs.AnswerFile.{headed, putAnswer, putAnswers};
 ghost use Rattle.runfile.specs.Stepwise.{stored, answerAt, counted};
 ghost use Rattle.tally.specs.Tally.{isTaken};
-ghost use Rattle.runfile.specs.Run.{isRefused, answerOf, answerOutput, answeredOf};
+ghost use Rattle.runfile.specs.Run.{fileRegisters, fileChannel, isRefused, answerOf, answerOutput, answeredOf};
 ghost use Rattle.store.specs.Start.{startRegisters, startChannel};
 ghost use Rattle.store.specs.Step.{advanced};
 use super::answer_file::put_answer;
@@ -40,6 +40,20 @@ fn begin(file: &[u8], registers: &mut [u32; 1544], channel: &mut [u32; 4808])
         &file[a..b],
         &file[b..e],
     );
+}
+
+// A store begun from an accepted file: 0, or the refusal of the file and both memories as they were.
+pub fn start(file: &[u8], registers: &mut [u32; 1544], channel: &mut [u32; 4808]) -> u8
+    ensures registers { λ _. ⌜ now (registers .exit) ≡ fileRegisters (now (file .entry)) (now (registers .entry)) ⌝ }
+    ensures channel { λ _. ⌜ now (channel .exit) ≡ fileChannel (now (file .entry)) (now (channel .entry)) ⌝ }
+    ensures number { λ r. ⌜ r ≡ fileRefusal (now (file .entry)) ⌝ }
+{
+    let number = refusal(file);
+    if number != 0 {
+        return number;
+    }
+    begin(file, registers, channel);
+    number
 }
 
 // The code of step k, where the codes begin at a place.

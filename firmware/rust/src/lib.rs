@@ -31,6 +31,12 @@ extern "C" {
         primaries: *const u8,
         primaries_length: usize,
     ) -> u8;
+    fn gondzselu_start_file(
+        registers: *mut u32,
+        channel: *mut u32,
+        file: *const u8,
+        file_length: usize,
+    ) -> u8;
     fn gondzselu_step(
         registers: *mut u32,
         channel: *mut u32,
@@ -140,6 +146,12 @@ impl Store {
                 primaries.len(),
             )
         }
+    }
+
+    /// The same from the placement in a run file: 0, or 1 to 4 with both as they were.
+    pub fn restart_from_file(&mut self, file: &[u8]) -> u8 {
+        let (registers, channel) = (self.registers.as_mut_ptr(), self.channel.as_mut_ptr());
+        unsafe { gondzselu_start_file(registers, channel, file.as_ptr(), file.len()) }
     }
 
     /// A step: its result, 0 or the refusal, and its value.

@@ -84,11 +84,22 @@ fn start(placement: &Placement) -> Result<Store, u8> {
 /// Compares the steps of one file taken one by one, each of them checked: results, values, what
 /// the memories show (at some steps and the last), and that a refused step changes no word.
 pub fn compare_steps(file: &[u8], random: &mut Random) -> Result<(), String> {
-    let Ok(run) = Run::read(file) else {
-        return Ok(());
+    let mut begun = Store {
+        registers: [random.bits() as u32; gondzselu::REGISTERS_WORDS],
+        channel: [random.bits() as u32; gondzselu::CHANNEL_WORDS],
+    };
+    let before = begun.clone();
+    let number = begun.restart_from_file(file);
+    let run = match Run::read(file) {
+        Ok(run) => run,
+        Err(refusal) if number == refusal && begun == before => return Ok(()),
+        Err(refusal) => return Err(format!("start from the file: {number}, not {refusal}")),
     };
     let mut state = State::start(run.placement.clone()).expect("an accepted placement");
     let mut store = start(&run.placement).map_err(|n| format!("start refused with {n}"))?;
+    if number != 0 || begun != store {
+        return Err(format!("start from the file: {number}, or another store"));
+    }
     for (number, &(code, argument)) in run.steps.iter().enumerate() {
         let look = number + 1 == run.steps.len() || random.percent(5);
         step(&mut state, &mut store, code, argument, look)
