@@ -5,16 +5,15 @@ use mathlib.Core.Logic.{_≢_}
 use mathlib.Core.List.{List, [], _∷_, _++_}
 use native.Mathlib.Numerals.{add-one}
 use native.Mathlib.Omega.{arith}
-use borrow.Author.Tests.{lt-ltb, ne-eqb}
-use lib.ListN.{length, getD, set, length-set}
-use lib.Seq.{getD-set-same, getD-set-other}
+use lib.ListN.{length, getD}
 use Rattle.lists.specs.Listings.{listing, listing-snoc, listing-cons, listing-cong}
 use Rattle.names.specs.declared.Letter.{Letter}
 use Rattle.names.specs.Letters.{letterAt, stored}
 use Rattle.channel.specs.Layout.{headWord, countWord, inboxBlock, heldBlock, headOf, countOf, placeOf}
 use Rattle.channel.specs.Inbox.{pushed, popped}
 use Rattle.channel.specs.Shows.{taggedAt, inboxOf}
-use Rattle.names.proofs.Blocks.{word-other, letter-cong, letter-same, length-stored}
+use Rattle.names.proofs.Blocks.{letter-cong}
+use Rattle.names.proofs.Rings.{joined-long, joined-word, joined-count, joined-block, joined-last, gone-long, gone-word, gone-count, gone-head}
 
 -- ---- words that agree where they are read
 
@@ -37,28 +36,29 @@ module _ (ws : List ℕ) (i : ℕ) (l : Letter) (long : length ws ≡ 4808) (car
   abbrev pub last : ℕ
   last = placeOf ws i (countOf ws i)
 
-  pub pushed-is : pushed ws i l ≡ set (stored ws last l 0) (countWord i) (countOf ws i + 1)
-  unfolding pushed
-  pushed-is = rw (lt-ltb (countOf ws i) 48 room)
-
   pub pushed-long : length (pushed ws i l) ≡ 4808
-  pushed-long = rw pushed-is (length-set (stored ws last l 0) (countWord i) (countOf ws i + 1) ∙ length-stored ws last l 0 ∙ long)
+  unfolding pushed
+  pushed-long = joined-long ws (countWord i) last 48 l room ∙ long
 
   -- the words that a push leaves
   pub pushed-word : (a : ℕ) → a ≢ countWord i → ((k : ℕ) → k < 8 → a ≢ last * 8 + k) → getD (pushed ws i l) a 0 ≡ getD ws a 0
-  pushed-word a n h = rw pushed-is (getD-set-other (stored ws last l 0) (countWord i) a (countOf ws i + 1) 0 n ∙ word-other ws last l 0 a h)
+  unfolding pushed
+  pushed-word = joined-word ws (countWord i) last 48 l room
 
   pub pushed-count : countOf (pushed ws i l) i ≡ countOf ws i + 1
-  pushed-count = rw pushed-is (getD-set-same (stored ws last l 0) (countWord i) (countOf ws i + 1) 0 (omega (arith, length-stored ws last l 0)))
+  unfolding pushed
+  pushed-count = joined-count ws (countWord i) last 48 l room (omega arith)
 
   pub pushed-head : headOf (pushed ws i l) i ≡ headOf ws i
   pushed-head = pushed-word (headWord i) (omega arith) (λ k g. omega arith)
 
   pub pushed-block : (k : ℕ) → k < 8 → getD (pushed ws i l) (last * 8 + k) 0 ≡ getD (stored ws last l 0) (last * 8 + k) 0
-  pushed-block k g = rw pushed-is (getD-set-other (stored ws last l 0) (countWord i) (last * 8 + k) (countOf ws i + 1) 0 (omega arith))
+  unfolding pushed
+  pushed-block k g = joined-block ws (countWord i) last 48 l room k (omega arith)
 
   pub pushed-last : letterAt (pushed ws i l) last ≡ l
-  pushed-last = letter-cong (pushed ws i l) (stored ws last l 0) last pushed-block ∙ letter-same ws last l 0 (omega arith)
+  unfolding pushed
+  pushed-last = joined-last ws (countWord i) last 48 l room (λ k g. omega arith) (omega arith)
 
   -- another block of the inbox
   pushed-apart : (k : ℕ) → k < countOf ws i
@@ -79,32 +79,21 @@ module _ (ws : List ℕ) (i : ℕ) (l : Letter) (long : length ws ≡ 4808) (car
 -- ---- pop
 
 module _ (ws : List ℕ) (i : ℕ) (long : length ws ≡ 4808) (card : i < 8) (n : ℕ) (some-in : countOf ws i ≡ suc n) where
-  abbrev onward : List ℕ
-  onward = set ws (headWord i) ((headOf ws i % 48 + 1) % 48)
-
-  popped-is : popped ws i ≡ set onward (countWord i) (countOf ws i - 1)
-  unfolding popped
-  popped-is = rw (ne-eqb (countOf ws i) 0 (omega arith))
-
   pub popped-long : length (popped ws i) ≡ 4808
-  popped-long = rw popped-is (length-set onward (countWord i) (countOf ws i - 1) ∙ length-set ws (headWord i) ((headOf ws i % 48 + 1) % 48) ∙ long)
+  unfolding popped
+  popped-long = gone-long ws (headWord i) (countWord i) 48 n some-in ∙ long
 
   pub popped-word : (a : ℕ) → a ≢ headWord i → a ≢ countWord i → getD (popped ws i) a 0 ≡ getD ws a 0
-  popped-word a p q =
-      rw popped-is
-      (getD-set-other onward (countWord i) a (countOf ws i - 1) 0 q
-      ∙ getD-set-other ws (headWord i) a ((headOf ws i % 48 + 1) % 48) 0 p)
+  unfolding popped
+  popped-word = gone-word ws (headWord i) (countWord i) 48 n some-in
 
   pub popped-count : countOf (popped ws i) i ≡ n
-  popped-count =
-      rw popped-is
-      (getD-set-same onward (countWord i) (countOf ws i - 1) 0 (omega (arith, length-set ws (headWord i) ((headOf ws i % 48 + 1) % 48))) ∙ omega arith)
+  unfolding popped
+  popped-count = gone-count ws (headWord i) (countWord i) 48 n some-in (omega arith)
 
   pub popped-head : headOf (popped ws i) i ≡ (headOf ws i % 48 + 1) % 48
-  popped-head =
-      rw popped-is
-      (getD-set-other onward (countWord i) (headWord i) (countOf ws i - 1) 0 (omega arith)
-      ∙ getD-set-same ws (headWord i) ((headOf ws i % 48 + 1) % 48) 0 (omega arith))
+  unfolding popped
+  popped-head = gone-head ws (headWord i) (countWord i) 48 n some-in (omega arith) (omega arith)
 
   -- a pop takes the head away
   pub pop-drops : inboxOf ws i ≡ letterAt ws (inboxBlock i (headOf ws i % 48)) ∷ inboxOf (popped ws i) i

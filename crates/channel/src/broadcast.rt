@@ -18,7 +18,6 @@ use super::layout::count_of;
 use super::layout::held_block;
 use super::layout::place_of;
 use super::layout::taken_of;
-use super::layout::wide;
 use super::letters::load;
 use super::letters::store;
 use super::letters::tag_at;
@@ -27,6 +26,7 @@ use crate::Answer;
 use names::BroadcastNumber;
 use names::Card;
 use names::Letter;
+use names::wide;
 
 // 1 where the held message k of card i waits for broadcast n, else 0.
 fn ready(memory: &[u32; 4808], i: usize, n: u32, k: usize) -> usize

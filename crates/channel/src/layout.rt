@@ -41,12 +41,6 @@ pub(crate) const FLIGHT: usize = 521;
 // The block of broadcast n is RECENT + n % 64.
 pub(crate) const RECENT: usize = 537;
 
-pub(crate) fn wide(x: u32) -> usize
-    ensures { λ r. ⌜ (r ≡ x) × (r < 4294967296) ⌝ }
-{
-    x as usize
-}
-
 pub(crate) fn capped(x: u32, most: u32) -> u32
     ensures { λ r. ⌜ r ≡ min x most ⌝ }
 {

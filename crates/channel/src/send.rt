@@ -7,7 +7,6 @@ use super::layout::MADE;
 use super::layout::RECENT;
 use super::layout::cards;
 use super::layout::taken_of;
-use super::layout::wide;
 use super::letters::fits;
 use super::letters::store;
 use super::single::no_flight;
@@ -16,6 +15,7 @@ use names::BroadcastNumber;
 use names::Card;
 use names::Letter;
 use names::Message;
+use names::wide;
 
 // Whether one broadcast more leaves card i at most 64 behind.
 fn near_at(memory: &[u32; 4808], i: usize) -> bool

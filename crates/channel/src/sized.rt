@@ -25,7 +25,6 @@ use super::layout::place_of;
 use super::layout::sizes_fit;
 use super::layout::taken_of;
 use super::layout::tasks;
-use super::layout::wide;
 use super::letters::fits;
 use super::letters::kind_at;
 use super::letters::load;
@@ -33,6 +32,7 @@ use super::letters::tag_at;
 use super::letters::to_at;
 use super::single::no_flight;
 use names::Card;
+use names::wide;
 
 // Whether a block has a message with no field past its limit, its tag among them.
 fn block_fits(memory: &[u32; 4808], block: usize) -> bool

@@ -1,3 +1,4 @@
 pub mod Blocks
 pub mod CardSets
 pub mod PlacementLaws
+pub mod Rings

@@ -3,3 +3,4 @@ pub mod Update
 pub mod Placement
 pub mod Step
 pub mod Letters
+pub mod Rings

@@ -1,6 +1,7 @@
 // The vocabulary that the channel, the registers and the run files share: cards, tasks, registers and broadcast numbers as types of
 // their own, messages between cards, sets of cards, and what the functions of an update do.
 ghost use mathlib.Core.Path.{_≡_};
+ghost use Prim.Native.Nat.{_<_};
 ghost use Rattle.names.specs.CardSet.{memberOf, sizeOf, several, single, soleOf};
 ghost use Rattle.names.specs.Update.{sumOf, largerOf, updated};
 
@@ -49,6 +50,13 @@ pub struct Letter {
 pub struct Answer {
     pub result: u8,
     pub value: u32,
+}
+
+// A number as a place in memory: below 2^32, which a bound on places needs.
+pub fn wide(x: u32) -> usize
+    ensures { λ r. ⌜ (r ≡ x) × (r < 4294967296) ⌝ }
+{
+    x as usize
 }
 
 // Whether a card is in a set. A set of cards is a number: bit i, worth 2^i, is set where card i is in it.

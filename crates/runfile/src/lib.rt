@@ -8,6 +8,7 @@ ghost use Rattle.runfile.specs.RunFile.{stepsIn, copiesAt, primariesAt, 
 use names::Card;
 use names::Register;
 use names::Task;
+use names::wide;
 
 pub mod answer_file;
 mod run;
@@ -35,12 +36,6 @@ pub struct Answered {
 pub enum Judgement {
     Accepted(Sizes),
     Refused(u8),
-}
-
-fn wide(x: u32) -> usize
-    ensures { λ r. ⌜ (r ≡ x) × (r < 4294967296) ⌝ }
-{
-    x as usize
 }
 
 // Byte i of the count bytes that start at a place; 0 past them and past the end of the file.

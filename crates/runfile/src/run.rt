@@ -19,8 +19,8 @@ use super::copies_at;
 use super::primaries_at;
 use super::refusal;
 use super::steps;
-use super::wide;
 use crate::Answered;
+use names::wide;
 
 // Both memories begun from the file's placement.
 fn begin(file: &[u8], registers: &mut [u32; 1544], channel: &mut [u32; 4808])

@@ -4,6 +4,7 @@ ghost use Prim.Native.Nat.{_≤_};
 use super::text::count;
 use super::text::say;
 use names::placement::byte;
+use names::wide;
 
 // A file of the folder that the program runs in, at the start of a buffer; nothing where it is missing.
 fn read(path: &[u8], buffer: &mut [u8]) -> usize
@@ -33,12 +34,6 @@ fn difference(out: &[u8], answer: &[u8]) -> usize {
         i += 1;
     }
     i
-}
-
-fn wide(x: u32) -> usize
-    ensures { λ r. ⌜ r ≤ 4294967295 ⌝ }
-{
-    x as usize
 }
 
 // The number of steps in an answer.

@@ -11,7 +11,8 @@ use lib.Seq.{getD-set-same, getD-set-other}
 use Rattle.lists.specs.Listings.{listing-snoc, listing-cons, listing-cong}
 use Rattle.names.specs.declared.Letter.{Letter}
 use Rattle.names.specs.Letters.{letterAt, stored}
-use Rattle.names.proofs.Blocks.{word-other, letter-cong, letter-same, length-stored}
+use Rattle.names.proofs.Blocks.{letter-cong}
+use Rattle.names.proofs.Rings.{joined-long, joined-word, joined-count, joined-block, joined-last, gone-long, gone-word, gone-count, gone-head}
 use Rattle.store.specs.declared.Doing.{Doing}
 use Rattle.store.specs.declared.Doing.the-variants.{Quiet, AskingRead, AskingUpdate, Waiting, DoneRead, DoneUpdate}
 use Rattle.store.specs.Layout.{kindWord, askedWord, functionWord, valueWord, outHeadWord, outCountWord, outBlock}
@@ -107,28 +108,29 @@ module _ (ws : List ℕ) (i : ℕ) (l : Letter) (long : length ws ≡ 1544) (roo
   abbrev pub last : ℕ
   last = outPlace ws i (outCountOf ws i)
 
-  posted-is : posted ws i l ≡ set (stored ws last l 0) (outCountWord i) (outCountOf ws i + 1)
-  unfolding posted roomy
-  posted-is = rw (lt-ltb (outCountOf ws i) 16 room)
-
   pub posted-long : length (posted ws i l) ≡ 1544
-  posted-long = rw posted-is (length-set (stored ws last l 0) (outCountWord i) (outCountOf ws i + 1) ∙ length-stored ws last l 0 ∙ long)
+  unfolding posted
+  posted-long = joined-long ws (outCountWord i) last 16 l room ∙ long
 
   -- the words that it leaves
   pub posted-word : (a : ℕ) → a ≢ outCountWord i → ((k : ℕ) → k < 8 → a ≢ last * 8 + k) → getD (posted ws i l) a 0 ≡ getD ws a 0
-  posted-word a n h = rw posted-is (getD-set-other (stored ws last l 0) (outCountWord i) a (outCountOf ws i + 1) 0 n ∙ word-other ws last l 0 a h)
+  unfolding posted
+  posted-word = joined-word ws (outCountWord i) last 16 l room
 
   pub posted-count : outCountOf (posted ws i l) i ≡ outCountOf ws i + 1
-  posted-count = rw posted-is (getD-set-same (stored ws last l 0) (outCountWord i) (outCountOf ws i + 1) 0 (omega (arith, length-stored ws last l 0)))
+  unfolding posted
+  posted-count = joined-count ws (outCountWord i) last 16 l room (omega arith)
 
   pub posted-head : outHeadOf (posted ws i l) i ≡ outHeadOf ws i
   posted-head = posted-word (outHeadWord i) (omega arith) (λ k g. omega arith)
 
   pub posted-block : (k : ℕ) → k < 8 → getD (posted ws i l) (last * 8 + k) 0 ≡ getD (stored ws last l 0) (last * 8 + k) 0
-  posted-block k g = rw posted-is (getD-set-other (stored ws last l 0) (outCountWord i) (last * 8 + k) (outCountOf ws i + 1) 0 (omega arith))
+  unfolding posted
+  posted-block k g = joined-block ws (outCountWord i) last 16 l room k (omega arith)
 
   pub posted-last : letterAt (posted ws i l) last ≡ l
-  posted-last = letter-cong (posted ws i l) (stored ws last l 0) last posted-block ∙ letter-same ws last l 0 (omega arith)
+  unfolding posted
+  posted-last = joined-last ws (outCountWord i) last 16 l room (λ k g. omega arith) (omega arith)
 
   -- another place of the outbox
   pub posted-apart : (k : ℕ) → k < outCountOf ws i → letterAt (posted ws i l) (outPlace ws i k) ≡ letterAt ws (outPlace ws i k)
@@ -142,31 +144,21 @@ module _ (ws : List ℕ) (i : ℕ) (l : Letter) (long : length ws ≡ 1544) (roo
       (ap₂ (λ x y. x ++ (y ∷ [])) (listing-cong _ _ (outCountOf ws i) (λ k h. ap plain (posted-apart k h))) (ap plain posted-last))
 
 module _ (ws : List ℕ) (i : ℕ) (long : length ws ≡ 1544) (n : ℕ) (some-in : outCountOf ws i ≡ suc n) where
-  abbrev onward : List ℕ
-  onward = set ws (outHeadWord i) ((outHeadOf ws i % 16 + 1) % 16)
-
-  unposted-is : unposted ws i ≡ set onward (outCountWord i) (outCountOf ws i - 1)
-  unfolding unposted
-  unposted-is = rw (ne-eqb (outCountOf ws i) 0 (omega arith))
-
   pub unposted-long : length (unposted ws i) ≡ 1544
-  unposted-long = rw unposted-is (length-set onward (outCountWord i) (outCountOf ws i - 1) ∙ length-set ws (outHeadWord i) ((outHeadOf ws i % 16 + 1) % 16) ∙ long)
+  unfolding unposted
+  unposted-long = gone-long ws (outHeadWord i) (outCountWord i) 16 n some-in ∙ long
 
   pub unposted-word : (a : ℕ) → a ≢ outHeadWord i → a ≢ outCountWord i → getD (unposted ws i) a 0 ≡ getD ws a 0
-  unposted-word a p q =
-      rw unposted-is
-      (getD-set-other onward (outCountWord i) a (outCountOf ws i - 1) 0 q ∙ getD-set-other ws (outHeadWord i) a ((outHeadOf ws i % 16 + 1) % 16) 0 p)
+  unfolding unposted
+  unposted-word = gone-word ws (outHeadWord i) (outCountWord i) 16 n some-in
 
   pub unposted-count : outCountOf (unposted ws i) i ≡ n
-  unposted-count =
-      rw unposted-is
-      (getD-set-same onward (outCountWord i) (outCountOf ws i - 1) 0 (omega (arith, length-set ws (outHeadWord i) ((outHeadOf ws i % 16 + 1) % 16))) ∙ omega arith)
+  unfolding unposted
+  unposted-count = gone-count ws (outHeadWord i) (outCountWord i) 16 n some-in (omega arith)
 
   pub unposted-head : outHeadOf (unposted ws i) i ≡ (outHeadOf ws i % 16 + 1) % 16
-  unposted-head =
-      rw unposted-is
-      (getD-set-other onward (outCountWord i) (outHeadWord i) (outCountOf ws i - 1) 0 (omega arith)
-      ∙ getD-set-same ws (outHeadWord i) ((outHeadOf ws i % 16 + 1) % 16) 0 (omega arith))
+  unfolding unposted
+  unposted-head = gone-head ws (outHeadWord i) (outCountWord i) 16 n some-in (omega arith) (omega arith)
 
   -- place k after it was the next place before
   pub unposted-place : (k : ℕ) → outPlace (unposted ws i) i k ≡ outPlace ws i (suc k)

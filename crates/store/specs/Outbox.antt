@@ -6,7 +6,8 @@ use lib.Dec.{eqb, ltb}
 use lib.ListN.{getD, set}
 use Rattle.names.specs.declared.Body.{Body}
 use Rattle.names.specs.declared.Letter.{Letter}
-use Rattle.names.specs.Letters.{letterAt, stored}
+use Rattle.names.specs.Letters.{letterAt}
+use Rattle.names.specs.Rings.{joined, headGone}
 use Rattle.store.specs.Layout.{outHeadWord, outCountWord, outBlock}
 
 -- where card i's outbox starts in its ring
@@ -27,10 +28,7 @@ roomy ws i = ltb (outCountOf ws i) 16
 
 -- one letter more at the end of card i's outbox, where there is room
 unfoldable pub posted : List ℕ → ℕ → Letter → List ℕ
-posted ws i l =
-    cond (roomy ws i)
-    (set (stored ws (outPlace ws i (outCountOf ws i)) l 0) (outCountWord i) (outCountOf ws i + 1))
-    ws
+posted ws i l = joined ws (outCountWord i) (outPlace ws i (outCountOf ws i)) 16 l
 
 -- the first letter of card i's outbox
 unfoldable pub firstOut : List ℕ → ℕ → Letter
@@ -38,9 +36,7 @@ firstOut ws i = letterAt ws (outBlock i (outHeadOf ws i))
 
 -- the first letter of card i's outbox gone
 unfoldable pub unposted : List ℕ → ℕ → List ℕ
-unposted ws i =
-    cond (eqb (outCountOf ws i) 0) ws
-    (set (set ws (outHeadWord i) ((outHeadOf ws i % 16 + 1) % 16)) (outCountWord i) (outCountOf ws i - 1))
+unposted ws i = headGone ws (outHeadWord i) (outCountWord i) 16
 
 -- a message of task t on register x, from card i to a set of cards
 abbrev pub letterFor : ℕ → ℕ → ℕ → Body → ℕ → Letter

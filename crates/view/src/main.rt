@@ -8,6 +8,7 @@ mod placement;
 mod text;
 
 use names::placement::byte;
+use names::wide;
 use text::count;
 use text::number;
 use text::right;
@@ -24,12 +25,6 @@ fn refused_file(number: u8) {
         number as u32,
     );
     say(b"\n");
-}
-
-fn wide(x: u32) -> usize
-    ensures { λ r. ⌜ r < 4294967296 ⌝ }
-{
-    x as usize
 }
 
 // Step k of n.
