@@ -1,90 +1,114 @@
-# Reads .ci/offered, then the channel's specs (which definitions it has that can be opened), then files of crates/store. Prints each place
-# where a file of the store goes past what the channel offers; a file is read as one line of words, so a form may span lines.
-function say(what) { print file ": " what }
+# Definitions and proofs of crates/WHO: what they import, open and read. Reads .ci/offered, then the specs of crates/channel and
+# crates/automaton (what can be opened), then the files of crates/WHO; prints each place that .ci/offered does not allow. A file is read as
+# one line of words without comments, so a form may span lines; `;` stands before each declaration.
 
-# the words of a file, without comments
-function words(text, comment) {
-  gsub(/[{}(),;]/, " & ", text)
-  return split(text, word, " ")
-}
+function say(what) { print where ": " what }
 
 function last(name) { sub(/^.*\./, "", name); return name }
 
-# an import: word k is the module's path; what follows is a list in braces, an alias or nothing
-function import(k, path, name) {
-  path = word[k]
-  if (word[k - 1] != "use") { say("a name of the channel written out: " path); return k }
-  if (word[k - 2] == "pub") say("passes on names of the channel: " path)
-  sub(/^.*Rattle\.channel\.?/, "", path)
+# ---- imports
+
+# whether WHO may import this name of a module (* is the module as a whole)
+function allowed(module, name) {
+  if ((module, name) in offered || (module, "*") in offered) return 1
+  for (sub(/\.\*$/, "", module); sub(/\.[^.]*$/, "", module); ) if ((module ".*", "*") in offered) return 1
+  return 0
+}
+
+# whether a path of WHO's own is or, with more = 1, leads to a file of limits
+function is_limited(path, more, name) {
+  for (name in limited) if (index(path ".", name ".") == 1 || (more && index(name ".", path ".") == 1)) return 1
+  return 0
+}
+
+# word k is `use`; then the module's path and a list in braces, an alias or nothing
+function import(k, path, own, name, passes) {
+  passes = word[k - 1] == "pub"
+  path = word[++k]
+  sub(/^package\./, "", path)
   sub(/\.$/, "", path)
-  if (word[k + 1] != "{") {
-    if (!((path, "*") in offered) || path !~ /^proofs\./) say("imports a whole module of the channel: " path)
+  own = path
+  if (sub("^Rattle·" who "(·(specs|proofs))?(\\.|$)", "", own)) {
+    if (file in limits) return k
+    if (is_limited(own, word[k + 1] != "{")) say("imports " own ", which is for limits")
+    else if (word[k + 1] == "{") for (k += 2; k <= count && word[k] != "}"; k++) {
+      if (is_limited(own "." word[k])) say("imports " own "." word[k] ", which is for limits")
+    }
     return k
   }
-  for (k = k + 2; k <= count && word[k] != "}"; k++) {
+  if ((file in limits) || (who != "store" && path !~ /^Rattle·(channel|automaton)/)) return k
+  if (passes) say("passes on names of " path)
+  if (word[k + 1] != "{") {
+    if (!allowed(path, "*")) say("imports a whole module, " path)
+    return k
+  }
+  for (k += 2; k <= count && word[k] != "}"; k++) {
     if (word[k] == ",") continue
-    if (word[k] == "as") {
-      if (name in opens) say("gives another name to " name)
-      k++
-      continue
-    }
+    if (word[k] == "as") { say("gives another name to " name); k++; continue }
     name = word[k]
-    if (!((path, name) in offered) && !((path, "*") in offered)) say("imports " path "." name ", which the channel does not offer")
+    if (path ~ /^Rattle·(channel|automaton)/) imported[file, name] = 1
+    if (!allowed(path, name)) say("imports " path "." name ", which is not offered")
   }
   return k
 }
 
-function check(k) {
+# ---- a file
+
+function check(k, end, form) {
   for (k = 1; k <= count; k++) {
-    if (index(word[k], "Rattle.channel")) { k = import(k); continue }
+    if (word[k] == "use" && (file !~ /\.rt$/ || word[k - 1] == "ghost")) { k = import(k); continue }
+    if (file in limits) continue
+    if (word[k] ~ /(^|\.)(Rattle·|lib\.|mathlib\.)/) say("a name written out, " word[k])
+    if (who != "store") continue
     if (word[k] == "unfolding" || word[k] == "unfold") {
       end = word[k] == "unfold" ? "in" : "="
-      for (k++; k <= count && word[k] != end; k++) {
-        if (index(word[k], "Rattle.channel")) say("opens " word[k])
-        else if (last(word[k]) in opens) say("opens the channel's " last(word[k]))
-      }
+      for (k++; k <= count && word[k] != end; k++)
+        if (last(word[k]) in opens || (file, word[k]) in imported) say("opens the channel's " last(word[k]))
     }
-    if ((word[k] == "getD" || word[k] == "set") && (word[k + 1] ~ /^(cs|ds)$/ || (word[k + 1] == "(" && word[k + 3] == ".channel")))
-      say("reads a word of the channel's memory")
+    if (word[k] in words) {
+      form = word[k + 1] == "(" ? "(" word[k + 2] : word[k + 1]
+      if (!(("*", form) in memory) && !((file, form) in memory)) say("a word of something else than the registers' memory: " word[k] " " form)
+    }
+    if (word[k] == "open") say("names the fields of a record by open")
+    if (word[k] ~ /\.(sent|flight|held|inbox)$/ && !((file, word[k]) in queue)) say("looks at a queue of the channel, " word[k])
+    memories(k)
   }
 }
 
-# code: the channel's memory is a parameter named channel that is handed on as it is
-function code(text) {
-  gsub(/Rattle.channel/, "", text)
-  gsub(/channel::/, "", text)
-  gsub(/channel \.(entry|exit)/, "", text)
-  gsub(/ensures channel /, "", text)
-  gsub(/ \.channel/, "", text)  # a field of an outcome, in a contract
-  gsub(/channel: &(mut )?\[u32; 4808\]/, "", text)
-  while (sub(/[(,] *channel *[,)]/, ",", text)) {}
-  if (match(text, /[^a-z_]channel[^a-z_]/)) say("does more with the channel's memory than hand it on: " substr(text, RSTART + 1, 20))
-  if (index(text, "4808")) say("the channel's memory under another name")
-}
-
-function done() {
-  if (kind != "store") return
-  if (file ~ /\.rt$/) code(text)
-  if (!(short in limits)) { count = words(text); check() }
-}
-
 FNR == 1 {
-  done()
-  file = FILENAME
-  text = " "
-  kind = file ~ /offered$/ ? "offered" : file ~ /crates\/channel\// ? "channel" : "store"
-  short = file
-  sub(/^.*crates\/store\//, "", short)
+  kind = FILENAME ~ /offered$/ ? "offered" : index(FILENAME, "crates/" who "/") ? "checked" : "opened"
+  if (kind == "checked") files[++number] = FILENAME
 }
-kind == "offered" && $1 !~ /^#/ && NF > 1 {
-  for (n = 2; n <= NF; n++) { if ($1 == "limits") limits[$n] = 1; else offered[$1, $n] = 1 }
+kind == "offered" && NF > 2 {
+  for (n = 3; n <= NF; n++) {
+    if ($1 == who) offered[$2, $n] = 1
+    if ($1 == "store" && $2 ~ /^Rattle.channel/ && $n != "*") free[$n] = 1
+    if ($1 == "memory") memory[$2, $n] = 1
+    if ($1 == "queue") queue[$2, $n] = 1
+    if ($1 == "limits" && $2 == who) { limits[$n] = 1; sub(/\.antt$/, "", $n); gsub(/\//, ".", $n); limited[$n] = 1 }
+  }
 }
-kind == "channel" && /^ *unfoldable (abbrev )?(pub )?/ {
-  for (n = 2; n <= NF; n++) if ($n != "abbrev" && $n != "pub") { opens[$n] = 1; break }
+kind == "offered" && $1 == "words" { for (n = 2; n <= NF; n++) words[$n] = 1 }
+kind == "offered" && $1 == "asks" { for (n = 2; n <= NF; n++) asks[$n] = 1 }
+kind == "offered" && $1 == "leaves" { for (n = 2; n <= NF; n++) leaves[$n] = 1 }
+kind == "opened" && $1 == "unfoldable" { for (n = 2; n <= NF; n++) if ($n != "abbrev" && $n != "pub") { opens[$n] = 1; break } }
+kind == "checked" {
+  line = plain($0, FILENAME ~ /\.rt$/)
+  if (FILENAME !~ /\.rt$/ && declares(line, FILENAME ~ /\/specs\//)) line = " ; " line
+  text[number] = text[number] " " line
 }
-kind == "store" {
-  line = $0
-  sub(file ~ /\.rt$/ ? "//.*" : "(^|[ \t])--([^>].*)?$", " ", line)
-  text = text " " line
+END {
+  for (n = 1; n <= number; n++) {
+    where = file = files[n]
+    sub(/^.*crates\//, "", where)
+    sub("^.*crates/" who "/", "", file)
+    gsub(/«|»/, "", text[n])
+    gsub(/[{}(),;]/, " & ", text[n])
+    gsub(/ +/, " ", text[n])
+    # a contract names the memories by the parameters of its function
+    gsub(/\( now \( registers \.(entry|exit) \) \)|now \( registers \.(entry|exit) \)|\( now registers \)/, "rs", text[n])
+    gsub(/\( now \( channel \.(entry|exit) \) \)|now \( channel \.(entry|exit) \)|\( now channel \)/, "cs", text[n])
+    count = split(text[n], word, " ")
+    check()
+  }
 }
-END { done() }

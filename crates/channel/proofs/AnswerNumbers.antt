@@ -12,8 +12,8 @@ use Rattle.names.specs.declared.Letter.{Letter}
 use Rattle.channel.specs.declared.Answer.{Answer}
 use Rattle.channel.specs.declared.Answer.the-variants.{Done, BadSize, IllSized, NoTask, NoCard, NoBroadcast, NoneInFlight, FarBehind, Crowded}
 use Rattle.channel.specs.Answers.{answerNumber, isDone}
-use Rattle.channel.specs.Refusals.{otherwise}
-use Rattle.channel.specs.State.{ChannelState}
+use Rattle.automaton.specs.Refusals.{otherwise}
+use Rattle.automaton.specs.State.{ChannelState}
 use Rattle.channel.specs.Shows.{Shows}
 
 -- `Done` alone has number 0

@@ -8,7 +8,7 @@ use lib.ListN.{replicate, length-replicate, length, getD, set, length-set}
 use lib.Seq.{getD-set-same, getD-set-other}
 use Rattle.lists.specs.Tests.{and-intro}
 use Rattle.lists.specs.Listings.{listing}
-use Rattle.channel.specs.State.{initialChannel}
+use Rattle.automaton.specs.State.{initialChannel}
 use Rattle.channel.specs.Layout.{takenWord, headWord, countWord, heldWord, flightBlock}
 use Rattle.channel.specs.Begin.{sizesFit, begun}
 use Rattle.channel.specs.TakeSingle.{noFlight}

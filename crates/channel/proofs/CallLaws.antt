@@ -8,6 +8,7 @@ use native.Mathlib.Omega.{arith}
 use borrow.Author.Tests.{eqb-true, ne-eqb}
 use lib.Dec.{eqb, ltb}
 use lib.ListN.{length}
+use Rattle.lists.specs.Places.{nth-listing}
 use Rattle.names.specs.declared.Card.{Card}
 use Rattle.names.specs.declared.Task.{Task}
 use Rattle.names.specs.declared.Message.{Message}
@@ -15,8 +16,8 @@ use Rattle.names.specs.declared.Letter.{Letter}
 use Rattle.channel.specs.declared.Answer.{Answer}
 use Rattle.channel.specs.declared.Answer.the-variants.{NoCard}
 use Rattle.channel.specs.declared.Received.the-variants.{Got, NoSuchCard, Empty}
-use Rattle.channel.specs.State.{ChannelState, ChannelAction, dispatch, takeBroadcast, takeSingle, deliver, channelStep}
-use Rattle.channel.specs.Refusals.{otherwise, channelRefusal}
+use Rattle.automaton.specs.State.{ChannelState, ChannelAction, dispatch, takeBroadcast, takeSingle, deliver, channelStep}
+use Rattle.automaton.specs.Refusals.{otherwise, channelRefusal}
 use Rattle.channel.specs.Layout.{cardsOf, tasksOf, countOf, broadcastBlock, madeOf}
 use Rattle.names.specs.CardSet.{several}
 use Rattle.names.specs.Letters.{letterAt}
@@ -28,7 +29,7 @@ use Rattle.channel.specs.TakeSingle.{singleAnswer, singleMemory}
 use Rattle.channel.specs.Dispatch.{castAnswer, castMemory, flyAnswer, flyMemory, letterOf, dispatchAnswer, dispatchMemory}
 use Rattle.channel.specs.Sized.{wellSized}
 use Rattle.channel.specs.Shows.{letterMail, Shows, stateOf}
-use Rattle.channel.specs.Calls.{done}
+use Rattle.automaton.specs.Calls.{done}
 use Rattle.channel.specs.MemoryCalls.{Call, dispatchCall, takeBroadcastCall, takeSingleCall, receiveCall, callNumber, callMemory, actionOf, orElse, absent, unfit, callRefusal, letters, CallFollows}
 use Rattle.channel.proofs.SizedFacts.{Sized}
 use Rattle.channel.proofs.AnswerNumbers.{done-number}
@@ -42,7 +43,6 @@ use Rattle.channel.proofs.SizedReceive.{receive-keeps}
 use Rattle.channel.proofs.SizedTakeBroadcast.{take-keeps}
 use Rattle.channel.proofs.SizedTakeSingle.{single-keeps}
 use Rattle.channel.proofs.SizedDispatch.{dispatch-keeps}
-use Rattle.channel.proofs.Places.{nth-listing}
 use Rattle.lists.specs.Listings.{listing-length}
 
 -- ---- refusals

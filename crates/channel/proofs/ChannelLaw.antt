@@ -10,7 +10,7 @@ use lib.Dec.{leb}
 use Rattle.lists.specs.Tests.{and-fst, and-snd}
 use Rattle.lists.specs.Conjunctions.{and-five}
 use Rattle.channel.specs.declared.Answer.the-variants.{Done, BadSize}
-use Rattle.channel.specs.Refusals.{otherwise}
+use Rattle.automaton.specs.Refusals.{otherwise}
 use Rattle.channel.specs.Layout.{cardsOf, tasksOf, registersOf}
 use Rattle.channel.specs.Answers.{answerNumber}
 use Rattle.channel.specs.Begin.{sizesFit, begun, beginAnswer, beginMemory}

@@ -14,8 +14,8 @@ use Rattle.names.specs.declared.Card.{Card}
 use Rattle.names.specs.declared.Message.{Message}
 use Rattle.names.specs.declared.Letter.{Letter}
 use Rattle.channel.specs.declared.Answer.the-variants.{Done, IllSized, NoCard, FarBehind}
-use Rattle.channel.specs.State.{Tagged, ChannelState, dispatching}
-use Rattle.channel.specs.Refusals.{otherwise, broadcastRefusal, flightRefusal, dispatchRefusal}
+use Rattle.automaton.specs.State.{Tagged, ChannelState, dispatching}
+use Rattle.automaton.specs.Refusals.{otherwise, broadcastRefusal, flightRefusal, dispatchRefusal}
 use Rattle.channel.specs.Layout.{cardsOf, tasksOf, madeOf, flightBlock}
 use Rattle.names.specs.CardSet.{several}
 use Rattle.channel.specs.Letters.{fits}

@@ -13,7 +13,7 @@ use Rattle.lists.specs.Loops.{turns}
 use Rattle.lists.specs.Conjunctions.{and-three}
 use Rattle.names.specs.CardSet.{memberOf, single}
 use Rattle.names.specs.declared.Letter.{Letter}
-use Rattle.channel.specs.State.{Tagged, released}
+use Rattle.automaton.specs.State.{Tagged, released}
 use Rattle.channel.specs.Layout.{headWord, countWord, heldWord, heldBlock, countOf, heldCountOf}
 use Rattle.names.specs.Letters.{letterAt, tagAt, stored}
 use Rattle.channel.specs.Letters.{fits}

@@ -7,8 +7,9 @@ use mathlib.Core.Option.{some}
 use native.Mathlib.Omega.{arith}
 use native.Mathlib.Decide.{decLt, ℕ-discrete}
 use lib.ListN.{length, getD}
+use Rattle.lists.specs.Places.{nth}
 use Rattle.names.specs.declared.Letter.{Letter}
-use Rattle.channel.specs.State.{ChannelState, nth}
+use Rattle.automaton.specs.State.{ChannelState}
 use Rattle.names.specs.Letters.{letterAt}
 use Rattle.channel.specs.Layout.{takenWord, headWord, countWord, heldWord, flightBlock, broadcastBlock, cardsOf, tasksOf, madeOf, takenOf, headOf, countOf, heldCountOf}
 use Rattle.channel.specs.TakeSingle.{noFlight}

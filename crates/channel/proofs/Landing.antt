@@ -12,7 +12,7 @@ use lib.ListN.{length, getD, set, length-set}
 use lib.Seq.{getD-set-same, getD-set-other}
 use Rattle.lists.specs.Tests.{eqb-refl, eqb-not}
 use Rattle.names.specs.declared.Letter.{Letter}
-use Rattle.channel.specs.State.{Tagged, ChannelState, landing}
+use Rattle.automaton.specs.State.{Tagged, ChannelState, landing}
 use Rattle.channel.specs.Layout.{takenWord, countWord, heldWord, flightBlock, cardsOf, tasksOf, madeOf, countOf, heldCountOf}
 use Rattle.channel.specs.Inbox.{pushed}
 use Rattle.channel.specs.TakeSingle.{noFlight, flightTo, heldMore, landed}

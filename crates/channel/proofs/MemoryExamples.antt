@@ -13,7 +13,7 @@ use Rattle.names.specs.declared.Message.{Message}
 use Rattle.names.specs.declared.Body.{Body}
 use Rattle.names.specs.declared.Body.the-variants.{ReadDo, UpdateDo, ReadReply}
 use Rattle.channel.specs.declared.Received.the-variants.{Got}
-use Rattle.channel.specs.Refusals.{channelRefusal}
+use Rattle.automaton.specs.Refusals.{channelRefusal}
 use Rattle.channel.specs.Layout.{cardsOf, tasksOf, registersOf}
 use Rattle.names.specs.Letters.{known}
 use Rattle.channel.specs.Letters.{addressed, fits}

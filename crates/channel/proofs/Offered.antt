@@ -12,11 +12,12 @@ use lib.ListN.{length}
 use Rattle.lists.specs.Tests.{and-fst, and-snd, and-intro}
 use Rattle.lists.specs.Conjunctions.{and-five}
 use Rattle.lists.specs.Listings.{listing, listing-zero, listing-cons, listing-length}
+use Rattle.lists.specs.Places.{nth}
 use Rattle.names.specs.declared.Card.{Card}
 use Rattle.names.specs.declared.Letter.{Letter}
 use Rattle.names.specs.CardSet.{memberOf}
 use Rattle.names.specs.Letters.{letterAt, known}
-use Rattle.channel.specs.State.{ChannelState, nth}
+use Rattle.automaton.specs.State.{ChannelState}
 use Rattle.channel.specs.Layout.{broadcastBlock, cardsOf, tasksOf, registersOf, madeOf, takenOf, countOf, placeOf}
 use Rattle.channel.specs.Letters.{addressed, fits}
 use Rattle.channel.specs.Begin.{sizesFit, beginMemory}

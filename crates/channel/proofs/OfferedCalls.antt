@@ -8,15 +8,16 @@ use mathlib.Core.List.{List}
 use borrow.Author.Tests.{eqb-true, lt-ltb}
 use lib.Dec.{eqb}
 use lib.ListN.{length}
+use Rattle.lists.specs.Places.{nth}
 use Rattle.names.specs.declared.Card.{Card}
 use Rattle.names.specs.declared.Task.{Task}
 use Rattle.names.specs.declared.Message.{Message}
 use Rattle.names.specs.declared.Letter.{Letter}
 use Rattle.channel.specs.declared.Answer.the-variants.{Done, BadSize, IllSized, NoTask, NoCard, NoBroadcast, NoneInFlight, FarBehind, Crowded}
 use Rattle.channel.specs.declared.Received.the-variants.{Got}
-use Rattle.channel.specs.Mail.{Mail}
-use Rattle.channel.specs.State.{ChannelState, ChannelAction, dispatch, takeBroadcast, takeSingle, deliver, nth, channelStep}
-use Rattle.channel.specs.Refusals.{dispatchRefusal, takeRefusal, singleRefusal, channelRefusal}
+use Rattle.automaton.specs.Mail.{Mail}
+use Rattle.automaton.specs.State.{ChannelState, ChannelAction, dispatch, takeBroadcast, takeSingle, deliver, channelStep}
+use Rattle.automaton.specs.Refusals.{dispatchRefusal, takeRefusal, singleRefusal, channelRefusal}
 use Rattle.channel.specs.Layout.{cardsOf, tasksOf}
 use Rattle.channel.specs.Letters.{fits}
 use Rattle.channel.specs.Answers.{answerNumber, receivedNumber}
@@ -26,11 +27,11 @@ use Rattle.channel.specs.TakeSingle.{singleAnswer, singleMemory}
 use Rattle.channel.specs.Dispatch.{letterOf, dispatchAnswer, dispatchMemory}
 use Rattle.channel.specs.Sized.{wellSized}
 use Rattle.channel.specs.Shows.{letterMail, Shows}
-use Rattle.channel.specs.Calls.{done}
+use Rattle.automaton.specs.Calls.{done}
 use Rattle.channel.specs.MemoryCalls.{Call, dispatchCall, takeBroadcastCall, takeSingleCall, receiveCall, callNumber, callMemory, actionOf, orElse, absent, unfit, callRefusal, letters, SameSizes, CallFollows}
 use Rattle.channel.proofs.CallLaws.{refused-is, call-follows}
-pub use Rattle.channel.proofs.RenamedRefusals.{channelRefusal-map}
-pub use Rattle.channel.proofs.RenamedSteps.{channelStep-map}
+pub use Rattle.automaton.proofs.RenamedRefusals.{channelRefusal-map}
+pub use Rattle.automaton.proofs.RenamedSteps.{channelStep-map}
 
 -- the call that is operation x answers n and leaves us
 pub record Passes (ws : List ℕ) (w : ChannelState Letter) (x : ChannelAction Letter) (n : ℕ) (us : List ℕ) : Type 0 where

@@ -11,8 +11,8 @@ use Rattle.lists.specs.Tests.{eqb-refl, eqb-not}
 use Rattle.lists.specs.Listings.{listing}
 use Rattle.names.specs.declared.Letter.{Letter}
 use Rattle.channel.specs.declared.Received.the-variants.{Got, NoSuchCard}
-use Rattle.channel.specs.State.{ChannelState, delivering}
-use Rattle.channel.specs.Refusals.{receiveRefusal}
+use Rattle.automaton.specs.State.{ChannelState, delivering}
+use Rattle.automaton.specs.Refusals.{receiveRefusal}
 use Rattle.channel.specs.Layout.{inboxBlock, takenWord, heldWord, cardsOf, headOf, countOf, heldCountOf}
 use Rattle.names.specs.Letters.{letterAt}
 use Rattle.channel.specs.Answers.{receivedNumber}

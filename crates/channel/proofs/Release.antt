@@ -12,14 +12,14 @@ use lib.Seq.{getD-set-same, getD-set-other}
 use Rattle.lists.specs.Listings.{listing}
 use Rattle.lists.specs.Loops.{turns}
 use Rattle.names.specs.declared.Letter.{Letter}
-use Rattle.channel.specs.State.{Tagged, kept, released}
+use Rattle.automaton.specs.State.{Tagged, kept, released}
 use Rattle.names.specs.Letters.{stored}
 use Rattle.channel.specs.Layout.{takenWord, headWord, countWord, heldWord, inboxBlock, heldBlock, headOf, countOf, heldCountOf, placeOf}
 use Rattle.channel.specs.Inbox.{pushed}
 use Rattle.channel.specs.TakeBroadcast.{Sweep, sweeps, swept, sweptWords, sweptKept, releasedWords}
 use Rattle.channel.specs.Shows.{taggedAt, inboxOf, heldOf}
 use Rattle.names.proofs.Blocks.{word-other, letter-same, mark-same, length-stored}
-use Rattle.channel.proofs.ReleasedLists.{released-snoc, kept-snoc}
+use Rattle.automaton.proofs.ReleasedLists.{released-snoc, kept-snoc}
 use Rattle.channel.proofs.InboxRing.{tagged-cong, held-cong, ring-cong, pushed-long, pushed-word, pushed-count, push-appends, push-held}
 
 -- the first n messages held for card i

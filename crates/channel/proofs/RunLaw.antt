@@ -7,27 +7,27 @@ use lib.Dec.{eqb, ltb}
 use lib.ListN.{length}
 use Rattle.names.specs.declared.Letter.{Letter}
 use Rattle.channel.specs.declared.Received.the-variants.{NoSuchCard}
-use Rattle.channel.specs.State.{ChannelState, ChannelAction, dispatch, takeBroadcast, takeSingle, deliver, channelStep}
+use Rattle.automaton.specs.State.{ChannelState, ChannelAction, dispatch, takeBroadcast, takeSingle, deliver, channelStep}
 use Rattle.channel.specs.Sized.{wellSized}
 use Rattle.channel.specs.Shows.{letterMail, Shows}
-use Rattle.channel.specs.Calls.{done, calls}
+use Rattle.automaton.specs.Calls.{done, calls}
 use Rattle.channel.specs.MemoryCalls.{Call, callNumber, callMemory, memoryAfter, answersAfter, actionOf, handedUp, absent, unfit, callRefusal, letters, refusalsAfter, SameSizes, RunFollows, actionsOf, stateAfter}
 use Rattle.channel.proofs.Receiving.{receive-answer}
 use Rattle.channel.proofs.WellSizedParts.{fit-of, same-cards, same-tasks, fits-same}
 use Rattle.channel.proofs.FitRelease.{sizes-trans}
 use Rattle.channel.proofs.FitKept.{sized-of}
 use Rattle.channel.proofs.CallLaws.{refused-is, call-follows}
-use Rattle.channel.proofs.CallsKeepPromise.{calls-promise}
-use Rattle.channel.proofs.CallsEvents.{calls-events}
-use Rattle.channel.proofs.CallsComplete.{calls-complete}
+use Rattle.automaton.proofs.CallsKeepPromise.{calls-promise}
+use Rattle.automaton.proofs.CallsEvents.{calls-events}
+use Rattle.automaton.proofs.CallsComplete.{calls-complete}
 use Rattle.names.proofs.CardSets.{single-of}
 use Rattle.channel.proofs.Destinations.{sole-present, member-present}
 use Rattle.channel.proofs.FitQueues.{fits-to, fits-small}
 use Rattle.channel.proofs.SizedDispatch.{fits-some}
-use Rattle.channel.specs.AtRest.{GoesToCards}
+use Rattle.automaton.specs.AtRest.{GoesToCards}
 use Rattle.names.specs.CardSet.{several, soleOf, memberOf}
 use Rattle.channel.specs.Letters.{fits}
-use Rattle.channel.specs.Refusals.{otherwise}
+use Rattle.automaton.specs.Refusals.{otherwise}
 use Rattle.lists.specs.Tests.{clash, and-snd}
 use borrow.Author.Tests.{eqb-true, ltb-true}
 use native.Mathlib.Omega.{arith}

@@ -12,10 +12,11 @@ use lib.Dec.{eqb}
 use lib.ListN.{length, getD, set, length-append}
 use lib.Seq.{getD-set-same, getD-set-other}
 use Rattle.lists.specs.Tests.{eqb-refl, eqb-not}
+use Rattle.lists.specs.Places.{nth, nth-last, nth-old}
 use Rattle.names.specs.declared.Body.{Body}
 use Rattle.names.specs.declared.Body.the-variants.{ReadDo, UpdateDo, ReadReply, UpdateReply}
 use Rattle.names.specs.declared.Letter.{Letter}
-use Rattle.channel.specs.State.{ChannelState, nth, dispatching}
+use Rattle.automaton.specs.State.{ChannelState, dispatching}
 use Rattle.channel.specs.Layout.{takenWord, madeWord, flightBlock, broadcastBlock, cardsOf, tasksOf, madeOf, takenOf}
 use Rattle.names.specs.Letters.{letterAt, kindAt, kindOf, stored}
 use Rattle.channel.specs.TakeSingle.{noFlight}
@@ -23,7 +24,6 @@ use Rattle.channel.specs.Shows.{letterMail, flightOf, Shows}
 use Rattle.names.proofs.Blocks.{word-other, letter-cong, letter-same, mark-same, kind-same, length-stored}
 use Rattle.channel.proofs.SizedFacts.{Sized, cards-most, tasks-most, cards-words, tasks-words}
 use Rattle.channel.proofs.Frame.{inbox-words, held-words, sent-words, flight-words}
-use Rattle.channel.proofs.Places.{nth-last, nth-old}
 
 -- a block written has a message
 pub kind-some : (ws : List ℕ) (b : ℕ) (l : Letter) (tag : ℕ) → b * 8 + 8 ≤ length ws → (1 ≤ kindAt (stored ws b l tag) b) × (kindAt (stored ws b l tag) b ≤ 4)

@@ -11,7 +11,7 @@ use Rattle.lists.specs.Queues.{push}
 use Rattle.names.specs.CardSet.{memberOf, several}
 use Rattle.names.specs.declared.Card.{Card}
 use Rattle.names.specs.declared.Letter.{Letter}
-use Rattle.channel.specs.State.{released}
+use Rattle.automaton.specs.State.{released}
 use Rattle.channel.specs.Layout.{takenWord, headWord, countWord, heldWord, broadcastBlock, cardsOf, madeOf, takenOf, headOf, countOf, heldCountOf}
 use Rattle.channel.specs.Letters.{fits}
 use Rattle.channel.specs.Inbox.{pushed}

@@ -12,21 +12,21 @@ use Rattle.lists.specs.Filters.{filter}
 use Rattle.lists.specs.Counts.{filter-listing}
 use Rattle.lists.specs.Listings.{listing-length}
 use Rattle.lists.specs.Queues.{push}
+use Rattle.lists.specs.Places.{nth, nth-past}
 use Rattle.names.specs.declared.Card.{Card}
 use Rattle.names.specs.declared.Letter.{Letter}
 use Rattle.channel.specs.declared.Answer.the-variants.{Done, IllSized, NoCard, NoBroadcast, Crowded}
-use Rattle.channel.specs.State.{Tagged, ChannelState, nth, released, taking}
-use Rattle.channel.specs.Refusals.{otherwise, takeRefusal}
+use Rattle.automaton.specs.State.{Tagged, ChannelState, released, taking}
+use Rattle.automaton.specs.Refusals.{otherwise, takeRefusal}
 use Rattle.channel.specs.Layout.{heldBlock, placeOf, cardsOf, madeOf, takenOf, countOf, heldCountOf}
 use Rattle.names.specs.Letters.{letterAt}
 use Rattle.channel.specs.Answers.{answerNumber, isDone}
 use Rattle.channel.specs.TakeBroadcast.{readyAt, releasableOf, broadcastAt, broadcastsOf, nextLetter, nextThere, roomAnswer, takeAnswer, takeMemory}
 use Rattle.channel.specs.Shows.{letterMail, taggedAt, inboxOf, heldOf, Shows}
-use Rattle.channel.proofs.ReleasedLists.{released-count}
+use Rattle.automaton.proofs.ReleasedLists.{released-count}
 use Rattle.channel.proofs.SizedFacts.{Sized}
 use Rattle.channel.proofs.AnswerNumbers.{above, picked, passed, settle}
 use Rattle.channel.proofs.Taking.{next-is, take-shows}
-use Rattle.channel.proofs.Places.{nth-past}
 
 -- ---- the counts
 

@@ -10,8 +10,8 @@ use lib.Dec.{eqb, ltb, leb}
 use Rattle.names.specs.declared.Task.{Task}
 use Rattle.names.specs.declared.Letter.{Letter}
 use Rattle.channel.specs.declared.Answer.the-variants.{Done, IllSized, NoTask, NoneInFlight}
-use Rattle.channel.specs.State.{Tagged, ChannelState, arriving}
-use Rattle.channel.specs.Refusals.{otherwise, singleRefusal}
+use Rattle.automaton.specs.State.{Tagged, ChannelState, arriving}
+use Rattle.automaton.specs.Refusals.{otherwise, singleRefusal}
 use Rattle.channel.specs.Layout.{flightBlock, cardsOf, tasksOf, countOf, heldCountOf}
 use Rattle.names.specs.CardSet.{single}
 use Rattle.channel.specs.Answers.{answerNumber, isDone}

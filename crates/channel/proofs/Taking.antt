@@ -12,8 +12,9 @@ use lib.ListN.{length, getD, set, length-set}
 use lib.Seq.{getD-set-same, getD-set-other}
 use Rattle.lists.specs.Tests.{eqb-refl, eqb-not}
 use Rattle.lists.specs.Queues.{push}
+use Rattle.lists.specs.Places.{nth}
 use Rattle.names.specs.declared.Letter.{Letter}
-use Rattle.channel.specs.State.{ChannelState, nth, kept, released, taking}
+use Rattle.automaton.specs.State.{ChannelState, kept, released, taking}
 use Rattle.channel.specs.Layout.{takenWord, headWord, countWord, heldWord, cardsOf, madeOf, takenOf, headOf, countOf, heldCountOf, placeOf}
 use Rattle.channel.specs.Inbox.{pushed}
 use Rattle.channel.specs.TakeBroadcast.{releasedWords, joined, nextLetter, nextThere}

@@ -13,8 +13,8 @@ use Rattle.names.specs.declared.Message.{Message}
 use Rattle.names.specs.declared.Letter.{Letter}
 use Rattle.channel.specs.declared.Received.{Received}
 use Rattle.channel.specs.declared.Received.the-variants.{Got, NoSuchCard, Empty}
-use Rattle.channel.specs.State.{ChannelState, initialChannel, ChannelAction, dispatch, takeBroadcast, takeSingle, deliver, channelStep}
-use Rattle.channel.specs.Refusals.{otherwise, channelRefusal}
+use Rattle.automaton.specs.State.{ChannelState, initialChannel, ChannelAction, dispatch, takeBroadcast, takeSingle, deliver, channelStep}
+use Rattle.automaton.specs.Refusals.{otherwise, channelRefusal}
 use Rattle.channel.specs.Layout.{cardsWord, tasksWord, registersWord, cardsOf, tasksOf, registersOf, madeOf, takenBy}
 use Rattle.names.specs.Letters.{letterAt}
 use Rattle.channel.specs.Letters.{fits}
@@ -26,8 +26,8 @@ use Rattle.channel.specs.TakeSingle.{singleAnswer, singleMemory}
 use Rattle.channel.specs.Dispatch.{letterOf, dispatchAnswer, dispatchMemory}
 use Rattle.channel.specs.Sized.{wellSized}
 use Rattle.channel.specs.Shows.{letterMail, Shows}
-use Rattle.channel.specs.Calls.{Setup, done, calls, CallsPromise, CallsEvents}
-use Rattle.channel.specs.AtRest.{GoesToCards, CallsComplete}
+use Rattle.automaton.specs.Calls.{Setup, done, calls, CallsPromise, CallsEvents}
+use Rattle.automaton.specs.AtRest.{GoesToCards, CallsComplete}
 
 pub data Call : Type 0 where
   dispatchCall : Card → Message → ℕ → Call  -- sending card, message, destinations

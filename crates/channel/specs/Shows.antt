@@ -6,10 +6,11 @@ use mathlib.Core.List.{List}
 use mathlib.Core.Option.{Option, none, some}
 use lib.ListN.{length}
 use Rattle.lists.specs.Listings.{listing, ring}
+use Rattle.lists.specs.Places.{nth}
 use Rattle.names.specs.CardSet.{memberOf, several, soleOf}
 use Rattle.names.specs.declared.Letter.{Letter}
-use Rattle.channel.specs.Mail.{Mail}
-use Rattle.channel.specs.State.{Tagged, ChannelState, nth}
+use Rattle.automaton.specs.Mail.{Mail}
+use Rattle.automaton.specs.State.{Tagged, ChannelState}
 use Rattle.channel.specs.Layout.{inboxBlock, heldBlock, flightBlock, broadcastBlock, cardsOf, tasksOf, madeOf, takenOf, headOf, countOf, heldCountOf}
 use Rattle.names.specs.Letters.{letterAt, tagAt}
 use Rattle.channel.specs.TakeSingle.{noFlight}

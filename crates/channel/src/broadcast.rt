@@ -1,22 +1,21 @@
 // Step 7: a card takes the next broadcast, and what waited for it joins.
 ghost use mathlib.Core.Path.{_≡_};
-ghost use lib.Dec.{leb};
+ghost use lib.Dec.{eqb, leb};
 ghost use Prim.Native.Nat.{_<_, _≤_, _+_};
 ghost use Rattle.channel.specs.TakeBroadcast.{readyAt, releasableOf, broadcastAt, broadcastsOf, sweptWords, sweptKept, releasedWords, arrived, joined, roomAnswer, nextAnswer, nextMemory, takeAnswer, takeMemory};
 use super::answers::done;
 use super::answers::unless_full;
 use super::inbox::push;
-use super::layout::COUNT;
-use super::layout::FIRST;
-use super::layout::HELD;
-use super::layout::MADE;
-use super::layout::PART;
-use super::layout::RECENT;
+use super::layout::broadcast_block;
 use super::layout::capped;
 use super::layout::cards;
 use super::layout::count_of;
 use super::layout::held_block;
+use super::layout::held_of;
+use super::layout::made;
 use super::layout::place_of;
+use super::layout::set_held;
+use super::layout::set_taken;
 use super::layout::taken_of;
 use super::letters::load;
 use super::letters::store;
@@ -28,140 +27,147 @@ use names::Card;
 use names::Letter;
 use names::wide;
 
-// 1 where the held message k of card i waits for broadcast n, else 0.
-fn ready(memory: &[u32; 4808], i: usize, n: u32, k: usize) -> usize
-    requires { ⌜ (i < 8) × (k < 16) ⌝ }
-    ensures { λ r. ⌜ (r ≡ readyAt (now (memory .entry)) i n k) × (r ≤ 1) ⌝ }
+// Whether a message with this tag waits for broadcast n.
+fn waits(tag: BroadcastNumber, n: BroadcastNumber) -> bool
+    ensures { λ r. ⌜ r ≡ eqb (tag .0) (n .0) ⌝ }
 {
-    let tag = tag_at(memory, held_block(i, k));
-    if tag == n {
+    tag.0 == n.0
+}
+
+// 1 where the held message k of a card waits for broadcast n, else 0.
+fn ready(memory: &[u32; 4808], card: Card, n: BroadcastNumber, k: usize) -> usize
+    requires { ⌜ (card .0 < 8) × (k < 16) ⌝ }
+    ensures { λ r. ⌜ (r ≡ readyAt (now (memory .entry)) (card .0) (n .0) k) × (r ≤ 1) ⌝ }
+{
+    let tag = tag_at(memory, held_block(card, k));
+    if waits(tag, n) {
         return 1;
     }
     0
 }
 
-// How many held messages of card i wait for broadcast n.
-fn releasable(memory: &[u32; 4808], i: usize, n: u32) -> usize
-    requires { ⌜ i < 8 ⌝ }
-    ensures { λ r. ⌜ (r ≡ releasableOf (now (memory .entry)) i n) × (r ≤ 16) ⌝ }
+// How many held messages of a card wait for broadcast n.
+fn releasable(memory: &[u32; 4808], card: Card, n: BroadcastNumber) -> usize
+    requires { ⌜ card .0 < 8 ⌝ }
+    ensures { λ r. ⌜ (r ≡ releasableOf (now (memory .entry)) (card .0) (n .0)) × (r ≤ 16) ⌝ }
 {
-    let held = capped(memory[FIRST + i * PART + HELD], 16) as usize;
+    let held = capped(held_of(memory, card), 16) as usize;
     let mut count: usize = 0;
     let mut k: usize = 0;
     while k < held {
-        count += ready(memory, i, n, k);
+        count += ready(memory, card, n, k);
         k += 1;
     }
     count
 }
 
 // One held message: it joins the inbox where its tag is n, and else it moves down to place `kept`.
-fn sweep(memory: &mut [u32; 4808], i: usize, n: u32, k: usize, kept: usize) -> usize
-    requires { ⌜ (i < 8) × (k < 16) × (kept ≤ k) ⌝ }
-    ensures memory { λ _. ⌜ now (memory .exit) ≡ sweptWords i n k (now (memory .entry)) kept ⌝ }
-    ensures kept { λ r. ⌜ (r ≡ sweptKept i n k (now (memory .entry)) kept) × (r ≤ kept + 1) ⌝ }
+fn sweep(memory: &mut [u32; 4808], card: Card, n: BroadcastNumber, k: usize, kept: usize) -> usize
+    requires { ⌜ (card .0 < 8) × (k < 16) × (kept ≤ k) ⌝ }
+    ensures memory { λ _. ⌜ now (memory .exit) ≡ sweptWords (card .0) (n .0) k (now (memory .entry)) kept ⌝ }
+    ensures kept { λ r. ⌜ (r ≡ sweptKept (card .0) (n .0) k (now (memory .entry)) kept) × (r ≤ kept + 1) ⌝ }
 {
-    let block = held_block(i, k);
+    let block = held_block(card, k);
     let letter = load(memory, block);
     let mark = tag_at(memory, block);
-    if mark == n {
-        push(memory, i, letter);
+    if waits(mark, n) {
+        push(memory, card, letter);
         return kept;
     }
-    store(memory, held_block(i, kept), letter, BroadcastNumber(mark));
+    store(memory, held_block(card, kept), letter, mark);
     kept + 1
 }
 
-// The held messages of card i with tag n join its inbox in order, and the others close up.
-fn release(memory: &mut [u32; 4808], i: usize, n: u32)
-    requires { ⌜ i < 8 ⌝ }
-    ensures { λ _. ⌜ now (memory .exit) ≡ releasedWords (now (memory .entry)) i n ⌝ }
+// The held messages of a card with tag n join its inbox in order, and the others close up.
+fn release(memory: &mut [u32; 4808], card: Card, n: BroadcastNumber)
+    requires { ⌜ card .0 < 8 ⌝ }
+    ensures { λ _. ⌜ now (memory .exit) ≡ releasedWords (now (memory .entry)) (card .0) (n .0) ⌝ }
 {
-    let held = capped(memory[FIRST + i * PART + HELD], 16) as usize;
+    let held = capped(held_of(memory, card), 16) as usize;
     let mut kept: usize = 0;
     let mut k: usize = 0;
     while k < held {
-        kept = sweep(memory, i, n, k, kept);
+        kept = sweep(memory, card, n, k, kept);
         k += 1;
     }
-    memory[FIRST + i * PART + HELD] = kept as u32;
+    set_held(memory, card, kept as u32);
 }
 
-// 1 where the message at place k of card i's inbox came by broadcast, else 0.
-fn broadcast_at(memory: &[u32; 4808], i: usize, k: u32) -> usize
-    requires { ⌜ (i < 8) × (k < 48) ⌝ }
-    ensures { λ r. ⌜ (r ≡ broadcastAt (now (memory .entry)) i k) × (r ≤ 1) ⌝ }
+// 1 where the message at place k of a card's inbox came by broadcast, else 0.
+fn broadcast_at(memory: &[u32; 4808], card: Card, k: u32) -> usize
+    requires { ⌜ (card .0 < 8) × (k < 48) ⌝ }
+    ensures { λ r. ⌜ (r ≡ broadcastAt (now (memory .entry)) (card .0) k) × (r ≤ 1) ⌝ }
 {
-    if names::several(to_at(memory, place_of(memory, i, k))) {
+    if names::several(to_at(memory, place_of(memory, card, k))) {
         return 1;
     }
     0
 }
 
-// How many broadcasts stand in card i's inbox.
-fn broadcasts(memory: &[u32; 4808], i: usize) -> usize
-    requires { ⌜ i < 8 ⌝ }
-    ensures { λ r. ⌜ (r ≡ broadcastsOf (now (memory .entry)) i) × (r ≤ 48) ⌝ }
+// How many broadcasts stand in a card's inbox.
+fn broadcasts(memory: &[u32; 4808], card: Card) -> usize
+    requires { ⌜ card .0 < 8 ⌝ }
+    ensures { λ r. ⌜ (r ≡ broadcastsOf (now (memory .entry)) (card .0)) × (r ≤ 48) ⌝ }
 {
-    let most = capped(memory[FIRST + i * PART + COUNT], 48) as usize;
+    let most = capped(count_of(memory, card), 48) as usize;
     let mut count: usize = 0;
     let mut k: usize = 0;
     while k < most {
-        count += broadcast_at(memory, i, k as u32);
+        count += broadcast_at(memory, card, k as u32);
         k += 1;
     }
     count
 }
 
-// Whether card i's inbox has 32 broadcasts. A shorter inbox is not counted through.
-fn crowded(memory: &[u32; 4808], i: usize) -> bool
-    requires { ⌜ i < 8 ⌝ }
-    ensures { λ r. ⌜ r ≡ leb 32 (broadcastsOf (now (memory .entry)) i) ⌝ }
+// Whether a card's inbox has 32 broadcasts. A shorter inbox is not counted through.
+fn crowded(memory: &[u32; 4808], card: Card) -> bool
+    requires { ⌜ card .0 < 8 ⌝ }
+    ensures { λ r. ⌜ r ≡ leb 32 (broadcastsOf (now (memory .entry)) (card .0)) ⌝ }
 {
-    if count_of(memory, i) < 32 {
+    if count_of(memory, card) < 32 {
         return false;
     }
-    32 <= broadcasts(memory, i)
+    32 <= broadcasts(memory, card)
 }
 
-// A broadcast and its number reach card i, a destination: it joins the inbox, and then what waited for it.
-fn arrive(memory: &mut [u32; 4808], i: usize, number: u32, broadcast: Letter)
-    requires { ⌜ i < 8 ⌝ }
-    ensures { λ _. ⌜ now (memory .exit) ≡ arrived (now (memory .entry)) i number broadcast ⌝ }
+// A broadcast and its number reach a card, a destination: it joins the inbox, and then what waited for it.
+fn arrive(memory: &mut [u32; 4808], card: Card, number: BroadcastNumber, broadcast: Letter)
+    requires { ⌜ card .0 < 8 ⌝ }
+    ensures { λ _. ⌜ now (memory .exit) ≡ arrived (now (memory .entry)) (card .0) (number .0) broadcast ⌝ }
 {
-    push(memory, i, broadcast);
-    release(memory, i, number);
+    push(memory, card, broadcast);
+    release(memory, card, number);
 }
 
-// Card i takes broadcast n, whose letter is `letter`.
-fn join(memory: &mut [u32; 4808], i: usize, n: u32, letter: Letter, there: bool)
-    requires { ⌜ i < 8 ⌝ }
-    ensures { λ _. ⌜ now (memory .exit) ≡ joined (now (memory .entry)) i n letter there ⌝ }
+// A card takes broadcast n, whose letter is `letter`.
+fn join(memory: &mut [u32; 4808], card: Card, n: BroadcastNumber, letter: Letter, there: bool)
+    requires { ⌜ card .0 < 8 ⌝ }
+    ensures { λ _. ⌜ now (memory .exit) ≡ joined (now (memory .entry)) (card .0) (n .0) letter there ⌝ }
 {
-    memory[FIRST + i * PART] = n;
+    set_taken(memory, card, n);
     if there {
-        arrive(memory, i, n, letter);
+        arrive(memory, card, n, letter);
         return;
     }
-    release(memory, i, n);
+    release(memory, card, n);
 }
 
 // The number after x, which is below y.
-fn after(x: u32, y: u32) -> u32
-    requires { ⌜ x < y ⌝ }
-    ensures { λ r. ⌜ r ≡ x + 1 ⌝ }
+fn after(x: BroadcastNumber, y: BroadcastNumber) -> BroadcastNumber
+    requires { ⌜ x .0 < y .0 ⌝ }
+    ensures { λ r. ⌜ r .0 ≡ x .0 + 1 ⌝ }
 {
-    x + 1
+    BroadcastNumber(x.0 + 1)
 }
 
-// Whether card i's inbox has room for broadcast n and what it releases.
-fn room(memory: &[u32; 4808], i: usize, n: u32, there: bool) -> Answer
-    requires { ⌜ i < 8 ⌝ }
-    ensures { λ r. ⌜ r ≡ roomAnswer (now (memory .entry)) i n there ⌝ }
+// Whether a card's inbox has room for broadcast n and what it releases.
+fn room(memory: &[u32; 4808], card: Card, n: BroadcastNumber, there: bool) -> Answer
+    requires { ⌜ card .0 < 8 ⌝ }
+    ensures { λ r. ⌜ r ≡ roomAnswer (now (memory .entry)) (card .0) (n .0) there ⌝ }
 {
-    let count = wide(count_of(memory, i)) + releasable(memory, i, n);
+    let count = wide(count_of(memory, card)) + releasable(memory, card, n);
     if there {
-        if crowded(memory, i) {
+        if crowded(memory, card) {
             return Answer::Crowded;
         }
         return unless_full(48 < count + 1);
@@ -169,17 +175,17 @@ fn room(memory: &[u32; 4808], i: usize, n: u32, there: bool) -> Answer
     unless_full(48 < count)
 }
 
-// Card i takes broadcast n, where there is room.
-fn take_next(memory: &mut [u32; 4808], i: usize, n: u32) -> Answer
-    requires { ⌜ i < 8 ⌝ }
-    ensures memory { λ _. ⌜ now (memory .exit) ≡ nextMemory (now (memory .entry)) i n ⌝ }
-    ensures answer { λ r. ⌜ r ≡ nextAnswer (now (memory .entry)) i n ⌝ }
+// A card takes broadcast n, where there is room.
+fn take_next(memory: &mut [u32; 4808], card: Card, n: BroadcastNumber) -> Answer
+    requires { ⌜ card .0 < 8 ⌝ }
+    ensures memory { λ _. ⌜ now (memory .exit) ≡ nextMemory (now (memory .entry)) (card .0) (n .0) ⌝ }
+    ensures answer { λ r. ⌜ r ≡ nextAnswer (now (memory .entry)) (card .0) (n .0) ⌝ }
 {
-    let letter = load(memory, RECENT + (n % 64) as usize);
-    let there = names::member(letter.to, Card(i as u32));
-    let answer = room(memory, i, n, there);
+    let letter = load(memory, broadcast_block(n));
+    let there = names::member(letter.to, card);
+    let answer = room(memory, card, n, there);
     if done(answer) {
-        join(memory, i, n, letter, there);
+        join(memory, card, n, letter, there);
         return answer;
     }
     answer
@@ -193,11 +199,10 @@ pub fn take_broadcast(memory: &mut [u32; 4808], card: Card) -> Answer
     if cards(memory) <= card.0 {
         return Answer::NoCard;
     }
-    let i = card.0 as usize;
-    let taken = taken_of(memory, i);
-    let made = memory[MADE];
-    if made <= taken {
+    let taken = taken_of(memory, card);
+    let last = made(memory);
+    if last.0 <= taken.0 {
         return Answer::NoBroadcast;
     }
-    take_next(memory, i, after(taken, made))
+    take_next(memory, card, after(taken, last))
 }

@@ -2,11 +2,10 @@
 ghost use mathlib.Core.Path.{_≡_};
 ghost use Prim.Native.Nat.{_<_, _≤_};
 ghost use Rattle.channel.specs.Inbox.{pushed, popped, gotOf, receiveAnswer, receiveMemory};
-use super::layout::BLOCKS;
-use super::layout::INBOX;
 use super::layout::cards;
 use super::layout::count_of;
 use super::layout::head_of;
+use super::layout::inbox_block;
 use super::layout::place_of;
 use super::layout::set_count;
 use super::layout::set_head;
@@ -18,59 +17,58 @@ use names::Card;
 use names::Letter;
 
 // One letter more at the end of a card's inbox; nothing changes where there is no room.
-pub(crate) fn push(memory: &mut [u32; 4808], i: usize, letter: Letter)
-    requires { ⌜ i < 8 ⌝ }
-    ensures { λ _. ⌜ now (memory .exit) ≡ pushed (now (memory .entry)) i letter ⌝ }
+pub(crate) fn push(memory: &mut [u32; 4808], card: Card, letter: Letter)
+    requires { ⌜ card .0 < 8 ⌝ }
+    ensures { λ _. ⌜ now (memory .exit) ≡ pushed (now (memory .entry)) (card .0) letter ⌝ }
 {
-    let count = count_of(memory, i);
+    let count = count_of(memory, card);
     if 48 <= count {
         return;
     }
     store(
         memory,
-        place_of(memory, i, count),
+        place_of(memory, card, count),
         letter,
         BroadcastNumber(0),
     );
-    set_count(memory, i, count + 1);
+    set_count(memory, card, count + 1);
 }
 
 // The message of the first letter of a card's inbox.
-fn first(memory: &[u32; 4808], i: usize) -> Received
-    requires { ⌜ i < 8 ⌝ }
-    ensures { λ r. ⌜ r ≡ gotOf (now (memory .entry)) i ⌝ }
+fn first(memory: &[u32; 4808], card: Card) -> Received
+    requires { ⌜ card .0 < 8 ⌝ }
+    ensures { λ r. ⌜ r ≡ gotOf (now (memory .entry)) (card .0) ⌝ }
 {
-    if count_of(memory, i) == 0 {
+    if count_of(memory, card) == 0 {
         return Received::Empty;
     }
-    let first = head_of(memory, i) % 48;
-    let letter = load(memory, INBOX + i * BLOCKS + first as usize);
+    let letter = load(memory, inbox_block(card, head_of(memory, card) % 48));
     let message = letter.message;
     Received::Got(message)
 }
 
 // The first letter of a card's inbox leaves it, where there is one.
-fn drop_first(memory: &mut [u32; 4808], i: usize)
-    requires { ⌜ i < 8 ⌝ }
-    ensures { λ _. ⌜ now (memory .exit) ≡ popped (now (memory .entry)) i ⌝ }
+fn drop_first(memory: &mut [u32; 4808], card: Card)
+    requires { ⌜ card .0 < 8 ⌝ }
+    ensures { λ _. ⌜ now (memory .exit) ≡ popped (now (memory .entry)) (card .0) ⌝ }
 {
-    let head = head_of(memory, i);
-    let count = count_of(memory, i);
+    let head = head_of(memory, card);
+    let count = count_of(memory, card);
     if count == 0 {
         return;
     }
-    set_head(memory, i, (head % 48 + 1) % 48);
-    set_count(memory, i, count - 1);
+    set_head(memory, card, (head % 48 + 1) % 48);
+    set_count(memory, card, count - 1);
 }
 
 // The first letter of a card's inbox leaves it, and its message is handed up.
-fn pop(memory: &mut [u32; 4808], i: usize) -> Received
-    requires { ⌜ i < 8 ⌝ }
-    ensures left { λ _. ⌜ now (memory .exit) ≡ popped (now (memory .entry)) i ⌝ }
-    ensures got { λ r. ⌜ r ≡ gotOf (now (memory .entry)) i ⌝ }
+fn pop(memory: &mut [u32; 4808], card: Card) -> Received
+    requires { ⌜ card .0 < 8 ⌝ }
+    ensures left { λ _. ⌜ now (memory .exit) ≡ popped (now (memory .entry)) (card .0) ⌝ }
+    ensures got { λ r. ⌜ r ≡ gotOf (now (memory .entry)) (card .0) ⌝ }
 {
-    let got = first(memory, i);
-    drop_first(memory, i);
+    let got = first(memory, card);
+    drop_first(memory, card);
     got
 }
 
@@ -81,7 +79,7 @@ pub fn head(memory: &[u32; 4808], card: Card) -> Received
     if cards(memory) <= card.0 {
         return Received::NoSuchCard;
     }
-    first(memory, card.0 as usize)
+    first(memory, card)
 }
 
 // The channel's part of step 9: the head of the card's inbox leaves it.
@@ -92,5 +90,5 @@ pub fn receive(memory: &mut [u32; 4808], card: Card) -> Received
     if cards(memory) <= card.0 {
         return Received::NoSuchCard;
     }
-    pop(memory, card.0 as usize)
+    pop(memory, card)
 }

@@ -2,10 +2,12 @@
 ghost use mathlib.Core.Path.{_≡_};
 ghost use Prim.Native.Nat.{_<_, _≤_, min};
 ghost use lib.ListN.{set};
-ghost use Rattle.channel.specs.Layout.{cardsOf, tasksOf, registersOf, madeOf, takenOf, headOf, countOf, heldCountOf, headWord, countWord, heldWord, placeOf, heldBlock, takenBy};
+ghost use Rattle.channel.specs.Layout.{cardsOf, tasksOf, registersOf, madeOf, takenOf, headOf, countOf, heldCountOf, takenWord, headWord, countWord, heldWord, inboxBlock, placeOf, heldBlock, flightBlock, broadcastBlock, takenBy};
 ghost use Rattle.channel.specs.Begin.{sizesFit, beginAnswer, beginMemory};
 use crate::Answer;
+use names::BroadcastNumber;
 use names::Card;
+use names::Task;
 
 // Words of the whole memory.
 pub(crate) const CARDS: usize = 0;
@@ -17,29 +19,29 @@ pub(crate) const REGISTERS: usize = 2;
 pub(crate) const MADE: usize = 3;
 
 // The words of card i start at FIRST + i * PART.
-pub(crate) const FIRST: usize = 8;
+const FIRST: usize = 8;
 
-pub(crate) const PART: usize = 520;
+const PART: usize = 520;
 
 // Its words of its own.
-pub(crate) const HEAD: usize = 1;
+const HEAD: usize = 1;
 
-pub(crate) const COUNT: usize = 2;
+const COUNT: usize = 2;
 
-pub(crate) const HELD: usize = 3;
+const HELD: usize = 3;
 
 // Blocks of eight words: card i's inbox from INBOX + i * BLOCKS, what is held for it from KEPT + i * BLOCKS.
-pub(crate) const BLOCKS: usize = 65;
+const BLOCKS: usize = 65;
 
-pub(crate) const INBOX: usize = 2;
+const INBOX: usize = 2;
 
-pub(crate) const KEPT: usize = 50;
+const KEPT: usize = 50;
 
 // The block of task t's message in flight is FLIGHT + t.
-pub(crate) const FLIGHT: usize = 521;
+const FLIGHT: usize = 521;
 
 // The block of broadcast n is RECENT + n % 64.
-pub(crate) const RECENT: usize = 537;
+const RECENT: usize = 537;
 
 pub(crate) fn capped(x: u32, most: u32) -> u32
     ensures { λ r. ⌜ r ≡ min x most ⌝ }
@@ -71,87 +73,117 @@ pub fn registers(memory: &[u32; 4808]) -> u32
     capped(memory[REGISTERS], 32)
 }
 
-// The number of broadcasts made.
-pub fn made(memory: &[u32; 4808]) -> u32
-    ensures { λ r. ⌜ r ≡ madeOf (now (memory .entry)) ⌝ }
+// The number of broadcasts made, which is the number of the last.
+pub fn made(memory: &[u32; 4808]) -> BroadcastNumber
+    ensures { λ r. ⌜ r .0 ≡ madeOf (now (memory .entry)) ⌝ }
 {
-    memory[MADE]
+    BroadcastNumber(memory[MADE])
 }
 
-// Card i's own words.
-pub(crate) fn taken_of(memory: &[u32; 4808], i: usize) -> u32
-    requires { ⌜ i < 8 ⌝ }
-    ensures { λ r. ⌜ r ≡ takenOf (now (memory .entry)) i ⌝ }
+// A card's own words.
+pub(crate) fn taken_of(memory: &[u32; 4808], card: Card) -> BroadcastNumber
+    requires { ⌜ card .0 < 8 ⌝ }
+    ensures { λ r. ⌜ r .0 ≡ takenOf (now (memory .entry)) (card .0) ⌝ }
 {
-    memory[FIRST + i * PART]
+    BroadcastNumber(memory[FIRST + card.0 as usize * PART])
 }
 
-pub(crate) fn head_of(memory: &[u32; 4808], i: usize) -> u32
-    requires { ⌜ i < 8 ⌝ }
-    ensures { λ r. ⌜ r ≡ headOf (now (memory .entry)) i ⌝ }
+pub(crate) fn head_of(memory: &[u32; 4808], card: Card) -> u32
+    requires { ⌜ card .0 < 8 ⌝ }
+    ensures { λ r. ⌜ r ≡ headOf (now (memory .entry)) (card .0) ⌝ }
 {
-    memory[FIRST + i * PART + HEAD]
+    memory[FIRST + card.0 as usize * PART + HEAD]
 }
 
-pub(crate) fn count_of(memory: &[u32; 4808], i: usize) -> u32
-    requires { ⌜ i < 8 ⌝ }
-    ensures { λ r. ⌜ r ≡ countOf (now (memory .entry)) i ⌝ }
+pub(crate) fn count_of(memory: &[u32; 4808], card: Card) -> u32
+    requires { ⌜ card .0 < 8 ⌝ }
+    ensures { λ r. ⌜ r ≡ countOf (now (memory .entry)) (card .0) ⌝ }
 {
-    memory[FIRST + i * PART + COUNT]
+    memory[FIRST + card.0 as usize * PART + COUNT]
 }
 
-pub(crate) fn held_of(memory: &[u32; 4808], i: usize) -> u32
-    requires { ⌜ i < 8 ⌝ }
-    ensures { λ r. ⌜ r ≡ heldCountOf (now (memory .entry)) i ⌝ }
+pub(crate) fn held_of(memory: &[u32; 4808], card: Card) -> u32
+    requires { ⌜ card .0 < 8 ⌝ }
+    ensures { λ r. ⌜ r ≡ heldCountOf (now (memory .entry)) (card .0) ⌝ }
 {
-    memory[FIRST + i * PART + HELD]
+    memory[FIRST + card.0 as usize * PART + HELD]
 }
 
-pub(crate) fn set_head(memory: &mut [u32; 4808], i: usize, x: u32)
-    requires { ⌜ i < 8 ⌝ }
-    ensures { λ _. ⌜ now (memory .exit) ≡ set (now (memory .entry)) (headWord i) x ⌝ }
+pub(crate) fn set_taken(memory: &mut [u32; 4808], card: Card, n: BroadcastNumber)
+    requires { ⌜ card .0 < 8 ⌝ }
+    ensures { λ _. ⌜ now (memory .exit) ≡ set (now (memory .entry)) (takenWord (card .0)) (n .0) ⌝ }
 {
-    memory[FIRST + i * PART + HEAD] = x;
+    memory[FIRST + card.0 as usize * PART] = n.0;
 }
 
-pub(crate) fn set_count(memory: &mut [u32; 4808], i: usize, x: u32)
-    requires { ⌜ i < 8 ⌝ }
-    ensures { λ _. ⌜ now (memory .exit) ≡ set (now (memory .entry)) (countWord i) x ⌝ }
+pub(crate) fn set_head(memory: &mut [u32; 4808], card: Card, x: u32)
+    requires { ⌜ card .0 < 8 ⌝ }
+    ensures { λ _. ⌜ now (memory .exit) ≡ set (now (memory .entry)) (headWord (card .0)) x ⌝ }
 {
-    memory[FIRST + i * PART + COUNT] = x;
+    memory[FIRST + card.0 as usize * PART + HEAD] = x;
 }
 
-pub(crate) fn set_held(memory: &mut [u32; 4808], i: usize, x: u32)
-    requires { ⌜ i < 8 ⌝ }
-    ensures { λ _. ⌜ now (memory .exit) ≡ set (now (memory .entry)) (heldWord i) x ⌝ }
+pub(crate) fn set_count(memory: &mut [u32; 4808], card: Card, x: u32)
+    requires { ⌜ card .0 < 8 ⌝ }
+    ensures { λ _. ⌜ now (memory .exit) ≡ set (now (memory .entry)) (countWord (card .0)) x ⌝ }
 {
-    memory[FIRST + i * PART + HELD] = x;
+    memory[FIRST + card.0 as usize * PART + COUNT] = x;
 }
 
-// The block of place k of card i's inbox, oldest first.
-pub(crate) fn place_of(memory: &[u32; 4808], i: usize, k: u32) -> usize
-    requires { ⌜ (i < 8) × (k < 48) ⌝ }
-    ensures { λ r. ⌜ (r ≡ placeOf (now (memory .entry)) i k) × (r < 601) ⌝ }
+pub(crate) fn set_held(memory: &mut [u32; 4808], card: Card, x: u32)
+    requires { ⌜ card .0 < 8 ⌝ }
+    ensures { λ _. ⌜ now (memory .exit) ≡ set (now (memory .entry)) (heldWord (card .0)) x ⌝ }
 {
-    INBOX + i * BLOCKS + ((head_of(memory, i) % 48 + k) % 48) as usize
+    memory[FIRST + card.0 as usize * PART + HELD] = x;
 }
 
-// The block of place k of what is held for card i.
-pub(crate) fn held_block(i: usize, k: usize) -> usize
-    requires { ⌜ (i < 8) × (k < 16) ⌝ }
-    ensures { λ r. ⌜ (r ≡ heldBlock i k) × (r < 601) ⌝ }
+// Block k of a card's inbox.
+pub(crate) fn inbox_block(card: Card, k: u32) -> usize
+    requires { ⌜ (card .0 < 8) × (k < 48) ⌝ }
+    ensures { λ r. ⌜ (r ≡ inboxBlock (card .0) k) × (r < 601) ⌝ }
 {
-    KEPT + i * BLOCKS + k
+    INBOX + card.0 as usize * BLOCKS + k as usize
+}
+
+// The block of place k of a card's inbox, oldest first.
+pub(crate) fn place_of(memory: &[u32; 4808], card: Card, k: u32) -> usize
+    requires { ⌜ (card .0 < 8) × (k < 48) ⌝ }
+    ensures { λ r. ⌜ (r ≡ placeOf (now (memory .entry)) (card .0) k) × (r < 601) ⌝ }
+{
+    inbox_block(card, (head_of(memory, card) % 48 + k) % 48)
+}
+
+// The block of place k of what is held for a card.
+pub(crate) fn held_block(card: Card, k: usize) -> usize
+    requires { ⌜ (card .0 < 8) × (k < 16) ⌝ }
+    ensures { λ r. ⌜ (r ≡ heldBlock (card .0) k) × (r < 601) ⌝ }
+{
+    KEPT + card.0 as usize * BLOCKS + k
+}
+
+// The block of a task's message in flight.
+pub(crate) fn flight_block(task: Task) -> usize
+    requires { ⌜ task .0 < 16 ⌝ }
+    ensures { λ r. ⌜ (r ≡ flightBlock (task .0)) × (r < 601) ⌝ }
+{
+    FLIGHT + task.0 as usize
+}
+
+// The block of a broadcast.
+pub(crate) fn broadcast_block(n: BroadcastNumber) -> usize
+    ensures { λ r. ⌜ (r ≡ broadcastBlock (n .0)) × (r < 601) ⌝ }
+{
+    RECENT + (n.0 % 64) as usize
 }
 
 // The number of broadcasts that a card has taken; 0 for an absent card.
-pub fn taken(memory: &[u32; 4808], card: Card) -> u32
-    ensures { λ r. ⌜ r ≡ takenBy (now (memory .entry)) (card .0) ⌝ }
+pub fn taken(memory: &[u32; 4808], card: Card) -> BroadcastNumber
+    ensures { λ r. ⌜ r .0 ≡ takenBy (now (memory .entry)) (card .0) ⌝ }
 {
     if cards(memory) <= card.0 {
-        return 0;
+        return BroadcastNumber(0);
     }
-    memory[FIRST + card.0 as usize * PART]
+    taken_of(memory, card)
 }
 
 // Whether the sizes are in range.

@@ -8,13 +8,21 @@ use super::layout::registers;
 use super::layout::tasks;
 use names::BroadcastNumber;
 use names::Letter;
+use names::Task;
 
-// The kind, the destinations and the tag in a block.
+// The kind, the task, the destinations and the tag in a block.
 pub(crate) fn kind_at(memory: &[u32; 4808], block: usize) -> u32
     requires { ⌜ block < 601 ⌝ }
     ensures { λ r. ⌜ r ≡ kindAt (now (memory .entry)) block ⌝ }
 {
     memory[block * 8]
+}
+
+pub(crate) fn task_at(memory: &[u32; 4808], block: usize) -> Task
+    requires { ⌜ block < 601 ⌝ }
+    ensures { λ r. ⌜ r ≡ letterAt (now (memory .entry)) block .message .task ⌝ }
+{
+    Task(memory[block * 8 + 1])
 }
 
 pub(crate) fn to_at(memory: &[u32; 4808], block: usize) -> u32
@@ -24,11 +32,11 @@ pub(crate) fn to_at(memory: &[u32; 4808], block: usize) -> u32
     memory[block * 8 + 6]
 }
 
-pub(crate) fn tag_at(memory: &[u32; 4808], block: usize) -> u32
+pub(crate) fn tag_at(memory: &[u32; 4808], block: usize) -> BroadcastNumber
     requires { ⌜ block < 601 ⌝ }
-    ensures { λ r. ⌜ r ≡ tagAt (now (memory .entry)) block ⌝ }
+    ensures { λ r. ⌜ r .0 ≡ tagAt (now (memory .entry)) block ⌝ }
 {
-    memory[block * 8 + 7]
+    BroadcastNumber(memory[block * 8 + 7])
 }
 
 // The letter in a block.

@@ -2,10 +2,11 @@
 ghost use mathlib.Core.Path.{_≡_};
 ghost use Prim.Native.Nat.{_<_, _≤_};
 ghost use Rattle.channel.specs.Dispatch.{nearAt, near, castAnswer, castMemory, flyAnswer, flyMemory, dispatchAnswer, dispatchMemory};
-use super::layout::FLIGHT;
 use super::layout::MADE;
-use super::layout::RECENT;
+use super::layout::broadcast_block;
 use super::layout::cards;
+use super::layout::flight_block;
+use super::layout::made;
 use super::layout::taken_of;
 use super::letters::fits;
 use super::letters::store;
@@ -17,24 +18,24 @@ use names::Letter;
 use names::Message;
 use names::wide;
 
-// Whether one broadcast more leaves card i at most 64 behind.
-fn near_at(memory: &[u32; 4808], i: usize) -> bool
-    requires { ⌜ i < 8 ⌝ }
-    ensures { λ r. ⌜ r ≡ nearAt (now (memory .entry)) i ⌝ }
+// Whether one broadcast more leaves a card at most 64 behind.
+fn near_at(memory: &[u32; 4808], card: Card) -> bool
+    requires { ⌜ card .0 < 8 ⌝ }
+    ensures { λ r. ⌜ r ≡ nearAt (now (memory .entry)) (card .0) ⌝ }
 {
-    let taken = wide(taken_of(memory, i));
-    let made = wide(memory[MADE]);
-    made + 1 <= taken + 64
+    let taken = wide(taken_of(memory, card).0);
+    let last = wide(made(memory).0);
+    last + 1 <= taken + 64
 }
 
 // Whether one broadcast more leaves every card at most 64 behind.
 fn near(memory: &[u32; 4808]) -> bool
     ensures { λ r. ⌜ r ≡ near (now (memory .entry)) ⌝ }
 {
-    let n = cards(memory) as usize;
-    let mut i: usize = 0;
+    let n = cards(memory);
+    let mut i: u32 = 0;
     while i < n {
-        if !near_at(memory, i) {
+        if !near_at(memory, Card(i)) {
             return false;
         }
         i += 1;
@@ -53,37 +54,32 @@ fn cast(memory: &mut [u32; 4808], letter: Letter) -> Answer
     if !fits(memory, letter) {
         return Answer::IllSized;
     }
-    let made = memory[MADE];
-    if 65535 <= made {
+    let last = made(memory);
+    if 65535 <= last.0 {
         return Answer::IllSized;
     }
-    let next = made + 1;
-    store(
-        memory,
-        RECENT + (next % 64) as usize,
-        letter,
-        BroadcastNumber(next),
-    );
-    memory[MADE] = next;
+    let next = BroadcastNumber(last.0 + 1);
+    store(memory, broadcast_block(next), letter, next);
+    memory[MADE] = next.0;
     Answer::Done
 }
 
-// A letter to one card is in flight, tagged with the number of broadcasts that card i, which sends it, has taken.
-fn fly(memory: &mut [u32; 4808], i: usize, letter: Letter) -> Answer
-    requires { ⌜ i < 8 ⌝ }
-    ensures memory { λ _. ⌜ now (memory .exit) ≡ flyMemory (now (memory .entry)) i letter ⌝ }
+// A letter to one card is in flight, tagged with the number of broadcasts that the card, which sends it, has taken.
+fn fly(memory: &mut [u32; 4808], card: Card, letter: Letter) -> Answer
+    requires { ⌜ card .0 < 8 ⌝ }
+    ensures memory { λ _. ⌜ now (memory .exit) ≡ flyMemory (now (memory .entry)) (card .0) letter ⌝ }
     ensures answer { λ r. ⌜ r ≡ flyAnswer (now (memory .entry)) letter ⌝ }
 {
     if !fits(memory, letter) {
         return Answer::IllSized;
     }
     let message = letter.message;
-    let t = message.task.0 as usize;
-    if !no_flight(memory, t) {
+    let task = message.task;
+    if !no_flight(memory, task) {
         return Answer::IllSized;
     }
-    let tag = taken_of(memory, i);
-    store(memory, FLIGHT + t, letter, BroadcastNumber(tag));
+    let tag = taken_of(memory, card);
+    store(memory, flight_block(task), letter, tag);
     Answer::Done
 }
 
@@ -95,7 +91,6 @@ pub fn dispatch(memory: &mut [u32; 4808], card: Card, message: Message, destinat
     if cards(memory) <= card.0 {
         return Answer::NoCard;
     }
-    let i = card.0 as usize;
     let letter = Letter {
         message: message,
         from: card,
@@ -104,5 +99,5 @@ pub fn dispatch(memory: &mut [u32; 4808], card: Card, message: Message, destinat
     if names::several(destinations) {
         return cast(memory, letter);
     }
-    fly(memory, i, letter)
+    fly(memory, card, letter)
 }

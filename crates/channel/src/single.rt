@@ -7,104 +7,109 @@ ghost use Rattle.channel.specs.TakeSingle.{noFlight, joinsAt, heldMore, 
 use super::answers::done;
 use super::answers::unless_full;
 use super::inbox::push;
-use super::layout::FIRST;
-use super::layout::FLIGHT;
-use super::layout::PART;
 use super::layout::count_of;
+use super::layout::flight_block;
 use super::layout::held_block;
 use super::layout::held_of;
 use super::layout::set_held;
+use super::layout::taken_of;
 use super::layout::tasks;
+use super::letters::kind_at;
 use super::letters::load;
 use super::letters::store;
 use super::letters::tag_at;
 use crate::Answer;
 use names::BroadcastNumber;
+use names::Card;
 use names::Letter;
 use names::Task;
 
-// Whether task t has nothing in flight.
-pub(crate) fn no_flight(memory: &[u32; 4808], t: usize) -> bool
-    requires { ⌜ t < 16 ⌝ }
-    ensures { λ r. ⌜ r ≡ noFlight (now (memory .entry)) t ⌝ }
+// Whether a task has nothing in flight.
+pub(crate) fn no_flight(memory: &[u32; 4808], task: Task) -> bool
+    requires { ⌜ task .0 < 16 ⌝ }
+    ensures { λ r. ⌜ r ≡ noFlight (now (memory .entry)) (task .0) ⌝ }
 {
-    memory[(FLIGHT + t) * 8] == 0
+    kind_at(memory, flight_block(task)) == 0
 }
 
 // The one destination of a message.
-fn destination(to: u32) -> usize
+fn destination(to: u32) -> Card
     requires { ⌜ single to ≡ true ⌝ }
-    ensures { λ r. ⌜ (r ≡ soleOf to) × (r < 8) ⌝ }
+    ensures { λ r. ⌜ (r .0 ≡ soleOf to) × (r .0 < 8) ⌝ }
 {
-    names::sole(to) as usize
+    names::sole(to)
 }
 
-// Whether a message with this tag joins card i's inbox, and is not held.
-fn joins_at(memory: &[u32; 4808], i: usize, tag: u32) -> bool
-    requires { ⌜ i < 8 ⌝ }
-    ensures { λ r. ⌜ r ≡ joinsAt (now (memory .entry)) i tag ⌝ }
+// Whether a message with this tag joins a card's inbox, and is not held.
+fn joins_at(memory: &[u32; 4808], card: Card, tag: BroadcastNumber) -> bool
+    requires { ⌜ card .0 < 8 ⌝ }
+    ensures { λ r. ⌜ r ≡ joinsAt (now (memory .entry)) (card .0) (tag .0) ⌝ }
 {
-    tag <= memory[FIRST + i * PART]
+    tag.0 <= taken_of(memory, card).0
 }
 
-// One letter more among those held for card i; nothing changes where there is no room.
-fn hold(memory: &mut [u32; 4808], i: usize, letter: Letter, tag: u32)
-    requires { ⌜ i < 8 ⌝ }
-    ensures { λ _. ⌜ now (memory .exit) ≡ heldMore (now (memory .entry)) i letter tag ⌝ }
+// One letter more among those held for a card; nothing changes where there is no room.
+fn hold(memory: &mut [u32; 4808], card: Card, letter: Letter, tag: BroadcastNumber)
+    requires { ⌜ card .0 < 8 ⌝ }
+    ensures { λ _. ⌜ now (memory .exit) ≡ heldMore (now (memory .entry)) (card .0) letter (tag .0) ⌝ }
 {
-    let held = held_of(memory, i);
+    let held = held_of(memory, card);
     if 16 <= held {
         return;
     }
-    store(
-        memory,
-        held_block(i, held as usize),
-        letter,
-        BroadcastNumber(tag),
-    );
-    set_held(memory, i, held + 1);
+    store(memory, held_block(card, held as usize), letter, tag);
+    set_held(memory, card, held + 1);
 }
 
-// Task t's message in flight reaches card i, where it joins the inbox or is held.
-fn land(memory: &mut [u32; 4808], t: usize, i: usize, letter: Letter, tag: u32, joins: bool)
-    requires { ⌜ (t < 16) × (i < 8) ⌝ }
-    ensures { λ _. ⌜ now (memory .exit) ≡ landed (now (memory .entry)) t i letter tag joins ⌝ }
+// A task's message in flight reaches a card, where it joins the inbox or is held.
+fn land(
+    memory: &mut [u32; 4808],
+    task: Task,
+    card: Card,
+    letter: Letter,
+    tag: BroadcastNumber,
+    joins: bool,
+)
+    requires { ⌜ (task .0 < 16) × (card .0 < 8) ⌝ }
+    ensures { λ _. ⌜ now (memory .exit) ≡ landed (now (memory .entry)) (task .0) (card .0) letter (tag .0) joins ⌝ }
 {
-    memory[(FLIGHT + t) * 8] = 0;
+    let at = flight_block(task) * 8;
+    memory[at] = 0;
     if joins {
-        push(memory, i, letter);
+        push(memory, card, letter);
         return;
     }
-    hold(memory, i, letter, tag);
+    hold(memory, card, letter, tag);
 }
 
-// Whether card i has room for a message that joins its inbox, or is held.
-fn may_land(memory: &[u32; 4808], i: usize, joins: bool) -> Answer
-    requires { ⌜ i < 8 ⌝ }
-    ensures { λ r. ⌜ r ≡ landAnswer (now (memory .entry)) i joins ⌝ }
+// Whether a card has room for a message that joins its inbox, or is held.
+fn may_land(memory: &[u32; 4808], card: Card, joins: bool) -> Answer
+    requires { ⌜ card .0 < 8 ⌝ }
+    ensures { λ r. ⌜ r ≡ landAnswer (now (memory .entry)) (card .0) joins ⌝ }
 {
     if joins {
-        return unless_full(48 <= count_of(memory, i));
+        return unless_full(48 <= count_of(memory, card));
     }
-    unless_full(16 <= held_of(memory, i))
+    unless_full(16 <= held_of(memory, card))
 }
 
-// Task t's message in flight reaches its destination, where there is room.
-fn reach(memory: &mut [u32; 4808], t: usize) -> Answer
-    requires { ⌜ t < 16 ⌝ }
-    ensures memory { λ _. ⌜ now (memory .exit) ≡ reachMemory (now (memory .entry)) t ⌝ }
-    ensures answer { λ r. ⌜ r ≡ reachAnswer (now (memory .entry)) t ⌝ }
+// A task's message in flight reaches its destination, where there is room.
+fn reach(memory: &mut [u32; 4808], task: Task) -> Answer
+    requires { ⌜ task .0 < 16 ⌝ }
+    ensures memory { λ _. ⌜ now (memory .exit) ≡ reachMemory (now (memory .entry)) (task .0) ⌝ }
+    ensures answer { λ r. ⌜ r ≡ reachAnswer (now (memory .entry)) (task .0) ⌝ }
 {
-    let letter = load(memory, FLIGHT + t);
+    let block = flight_block(task);
+    let letter = load(memory, block);
     if !names::single(letter.to) {
         return Answer::IllSized;
     }
-    let tag = tag_at(memory, FLIGHT + t);
-    let i = destination(letter.to);
-    let joins = joins_at(memory, i, tag);
-    let answer = may_land(memory, i, joins);
+    let tag = tag_at(memory, block);
+    let card = destination(letter.to);
+    let joins = joins_at(memory, card, tag);
+    let answer = may_land(memory, card, joins);
     if done(answer) {
-        land(memory, t, i, letter, tag, joins);
+        land(memory, task, card, letter, tag, joins);
         return answer;
     }
     answer
@@ -118,9 +123,8 @@ pub fn take_single(memory: &mut [u32; 4808], task: Task) -> Answer
     if tasks(memory) <= task.0 {
         return Answer::NoTask;
     }
-    let t = task.0 as usize;
-    if no_flight(memory, t) {
+    if no_flight(memory, task) {
         return Answer::NoneInFlight;
     }
-    reach(memory, t)
+    reach(memory, task)
 }

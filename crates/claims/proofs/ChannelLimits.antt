@@ -10,9 +10,9 @@ use mathlib.Core.Logic.{inl, inr, _⊎_}
 use mathlib.Core.Option.{Option, Option·none-ne-some, Option·some-injective, none, some}
 use mathlib.Core.Path.{ap, refl, sym, _∙_, _≡_}
 use native.Mathlib.Omega.{arith}
-use Rattle.channel.specs.Mail.{Mail}
-use Rattle.channel.specs.Refusals.{broadcastRefusal, dispatchRefusal, flightRefusal, otherwise, takeRefusal}
-use Rattle.channel.specs.State.{ChannelState, Tagged, arriving, channelStep, choose, dispatching, initialChannel, kept, landing, leave, released, taking}
+use Rattle.automaton.specs.Mail.{Mail}
+use Rattle.automaton.specs.Refusals.{broadcastRefusal, dispatchRefusal, flightRefusal, otherwise, takeRefusal}
+use Rattle.automaton.specs.State.{ChannelState, Tagged, arriving, channelStep, choose, dispatching, initialChannel, kept, landing, leave, released, taking}
 use Rattle.lists.specs.Counting.{filter-append, filter-none}
 use Rattle.lists.specs.Every.{each, each-at}
 use Rattle.lists.specs.Filters.{filter, keep}
@@ -20,7 +20,7 @@ use Rattle.lists.specs.Histories.{In, any-nil, here, there}
 use Rattle.lists.specs.Queues.{pop, push, push-cases}
 use Rattle.claims.proofs.Stable.{hold}
 use Rattle.claims.specs.Published.{mail}
-use Rattle.channel.specs.State as C
+use Rattle.automaton.specs.State as C
 
 module _ {M : Type 0} where
   kept-sub : (n : ℕ) (x : Tagged M) (l : List (Tagged M)) → In x (kept n l) → In x l

@@ -8,12 +8,12 @@ use mathlib.Core.List.{List, [], _++_, _∷_}
 use mathlib.Core.Option.{some}
 use mathlib.Core.Path.{ap, refl, subst, sym, _∙_, _≡_}
 use native.Mathlib.Omega.{arith}
-use Rattle.channel.specs.State.{nth}
 use Rattle.lists.specs.Counting.{filter-once, once-left, only-one}
 use Rattle.lists.specs.Every.{each}
 use Rattle.lists.specs.Filters.{Precedes, filter, filter-in, in-filter, keep}
 use Rattle.lists.specs.Histories.{In}
 use Rattle.lists.specs.Loops.{total, turns}
+use Rattle.lists.specs.Places.{nth}
 use Rattle.lists.specs.Queues.{Once}
 use Rattle.names.specs.CardSet.{justOf, memberOf, several, single, sizeOf, soleOf}
 use Rattle.names.specs.Placement.{copy}
@@ -29,24 +29,24 @@ use Rattle.claims.specs.Steps.{cardThere, commandOf, decode, functionThe
 
 -- ---- the ledger of K2
 
-ops-are : (book tiny k2) .ops ≡ updateOp 0 0 2 5 ∷ readOp 0 0 ∷ []
-unfolding decode known unnamedZero taskThere registerThere cardThere functionThere namesTask namesCard namesRegister namesChosen namesFunction operand commandOf each memberOf several single sizeOf soleOf justOf total turns updated sumOf largerOf eqb leb
+ops-are : (book tiny k2) .ops ≡ updateOp tiny 0 0 2 5 ∷ readOp tiny 0 0 ∷ []
+unfolding decode known unnamedZero taskThere registerThere cardThere functionThere namesTask namesCard namesRegister namesChosen namesFunction operand commandOf each memberOf several single sizeOf soleOf justOf total turns updated sumOf largerOf
 ops-are = refl
 
 applied-are : appliedOn tiny k2 0 ≡ 0 ∷ []
-unfolding decode known unnamedZero taskThere registerThere cardThere functionThere namesTask namesCard namesRegister namesChosen namesFunction operand commandOf each memberOf several single sizeOf soleOf justOf total turns updated sumOf largerOf eqb leb
+unfolding decode known unnamedZero taskThere registerThere cardThere functionThere namesTask namesCard namesRegister namesChosen namesFunction operand commandOf each memberOf several single sizeOf soleOf justOf total turns updated sumOf largerOf
 applied-are = refl
 
 reported-0 : ReportedAt tiny k2 0 2
-unfolding decode known unnamedZero taskThere registerThere cardThere functionThere namesTask namesCard namesRegister namesChosen namesFunction operand commandOf each memberOf several single sizeOf soleOf justOf total turns updated sumOf largerOf eqb leb
+unfolding decode known unnamedZero taskThere registerThere cardThere functionThere namesTask namesCard namesRegister namesChosen namesFunction operand commandOf each memberOf several single sizeOf soleOf justOf total turns updated sumOf largerOf
 reported-0 = record { before = take 2 k2; it = step 10 (0 ∷ []); after = drop 3 k2; whole = refl; place= = refl; task = 0; taken = refl }
 
 reported-1 : ReportedAt tiny k2 1 5
-unfolding decode known unnamedZero taskThere registerThere cardThere functionThere namesTask namesCard namesRegister namesChosen namesFunction operand commandOf each memberOf several single sizeOf soleOf justOf total turns updated sumOf largerOf eqb leb
+unfolding decode known unnamedZero taskThere registerThere cardThere functionThere namesTask namesCard namesRegister namesChosen namesFunction operand commandOf each memberOf several single sizeOf soleOf justOf total turns updated sumOf largerOf
 reported-1 = record { before = take 5 k2; it = step 10 (0 ∷ []); after = []; whole = refl; place= = refl; task = 0; taken = refl }
 
 abbrev both : List Op
-both = updateOp 0 0 2 5 ∷ readOp 0 0 ∷ []
+both = updateOp tiny 0 0 2 5 ∷ readOp tiny 0 0 ∷ []
 
 -- the only update of register 0 is operation 0
 updates-are : (k : ℕ) → updates tiny k2 0 k ≡ ((opAt both k) .upd && eqb ((opAt both k) .reg) 0)
@@ -58,24 +58,24 @@ only-zero (suc zero) e = absurd (false≢true e)
 only-zero (suc (suc k)) e = absurd (false≢true e)
 
 zero-updates : updates tiny k2 0 0 ≡ true
-unfolding decode known unnamedZero taskThere registerThere cardThere functionThere namesTask namesCard namesRegister namesChosen namesFunction operand commandOf each memberOf several single sizeOf soleOf justOf total turns updated sumOf largerOf eqb leb
+unfolding decode known unnamedZero taskThere registerThere cardThere functionThere namesTask namesCard namesRegister namesChosen namesFunction operand commandOf each memberOf several single sizeOf soleOf justOf total turns updated sumOf largerOf
 zero-updates = refl
 
 -- the two operations, and what operation 0 makes of 0
 one-task : (op tiny k2 0) .task ≡ (op tiny k2 1) .task
-unfolding decode known unnamedZero taskThere registerThere cardThere functionThere namesTask namesCard namesRegister namesChosen namesFunction operand commandOf each memberOf several single sizeOf soleOf justOf total turns updated sumOf largerOf eqb leb
+unfolding decode known unnamedZero taskThere registerThere cardThere functionThere namesTask namesCard namesRegister namesChosen namesFunction operand commandOf each memberOf several single sizeOf soleOf justOf total turns updated sumOf largerOf
 one-task = refl
 
 reads-zero : ((op tiny k2 1) .upd ≡ false) × ((op tiny k2 1) .reg ≡ 0)
-unfolding decode known unnamedZero taskThere registerThere cardThere functionThere namesTask namesCard namesRegister namesChosen namesFunction operand commandOf each memberOf several single sizeOf soleOf justOf total turns updated sumOf largerOf eqb leb
+unfolding decode known unnamedZero taskThere registerThere cardThere functionThere namesTask namesCard namesRegister namesChosen namesFunction operand commandOf each memberOf several single sizeOf soleOf justOf total turns updated sumOf largerOf
 reads-zero = (refl, refl)
 
 five : madeOfZero tiny k2 (0 ∷ []) ≡ 5
-unfolding decode known unnamedZero taskThere registerThere cardThere functionThere namesTask namesCard namesRegister namesChosen namesFunction operand commandOf each memberOf several single sizeOf soleOf justOf total turns updated sumOf largerOf eqb leb
+unfolding decode known unnamedZero taskThere registerThere cardThere functionThere namesTask namesCard namesRegister namesChosen namesFunction operand commandOf each memberOf several single sizeOf soleOf justOf total turns updated sumOf largerOf
 five = refl
 
 has-copy : copy tiny 0 0 ≡ true
-unfolding decode known unnamedZero taskThere registerThere cardThere functionThere namesTask namesCard namesRegister namesChosen namesFunction operand commandOf each memberOf several single sizeOf soleOf justOf total turns updated sumOf largerOf eqb leb
+unfolding decode known unnamedZero taskThere registerThere cardThere functionThere namesTask namesCard namesRegister namesChosen namesFunction operand commandOf each memberOf several single sizeOf soleOf justOf total turns updated sumOf largerOf
 has-copy = refl
 
 pub k2-forced : (answers : List Answer) (table : ℕ → ℕ → ℕ) → Explained tiny k2 answers table → (nth answers 5 ≡ some (record { result = 0; value = 5 })) × (table 0 0 ≡ 5)

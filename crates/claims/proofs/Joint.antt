@@ -1,30 +1,28 @@
 -- Both layers together: the register layer over the channel. No promise is assumed here; the channel's is proved.
 use Prim.Native.Nat.{ℕ}
-use borrow.Author.Tests.{eqb-true, not-false}
+use borrow.Author.Tests.{eqb-true}
 use lib.Dec.{eqb}
-use mathlib.Core.Bool.{Bool, cond, false, false≢true, true}
+use mathlib.Core.Bool.{Bool, cond, false, false≢true, true, true≢false, _&&_}
 use mathlib.Core.List.{List, [], map, _∷_}
 use mathlib.Core.Option.{Option}
-use mathlib.Core.Path.{ap, fun-ext, refl, subst, sym, _≡_}
-use Rattle.channel.proofs.KeepsPromise.{keeps-promise}
-use Rattle.channel.specs.Automaton.{ChannelExecution, ChannelPrecondition, Mcasts, Step, external, mcast, receive, rest}
-use Rattle.channel.specs.Network.{Network}
-use Rattle.channel.specs.Promise.{Act, Promise}
-use Rattle.channel.specs.TotalOrder.{rank}
+use mathlib.Core.Path.{ap, ap₂, fun-ext, refl, subst, sym, _≡_}
+use Rattle.automaton.proofs.KeepsPromise.{keeps-promise}
+use Rattle.automaton.specs.Automaton.{ChannelExecution, ChannelPrecondition, Mcasts, Step, external, mcast, receive, rest}
+use Rattle.automaton.specs.Network.{Network}
+use Rattle.multicast.specs.Promise.{Act, Promise}
+use Rattle.automaton.specs.TotalOrder.{rank}
 use Rattle.lists.specs.Histories.{Any, any-map}
 use Rattle.lists.specs.HistoryMaps.{any-into, any-out, at-into, at-out}
-use Rattle.lists.specs.Tests.{eqb-refl}
-use Rattle.names.specs.CardSet.{soleOf}
-use Rattle.names.specs.Placement.{Placement, holders, placementRefusal}
+use Rattle.lists.specs.Tests.{and-fst, and-intro, and-snd, eqb-refl}
+use Rattle.names.specs.CardSet.{memberOf, several, soleOf}
+use Rattle.names.specs.Placement.{Placement, placementRefusal}
 use Rattle.registers.proofs.Fresh.{fresh-dispatch}
 use Rattle.registers.proofs.Ordered.{ordered}
 use Rattle.registers.specs.Events.{Dispatches}
-use Rattle.registers.specs.Layer.{Event, Msg, Precondition, Valid, World, ask, from, reply, run, to, view}
-use Rattle.names.proofs.CardSets.{single-of}
-use Rattle.claims.proofs.CardSets.{only}
-use Rattle.claims.specs.Ledger.{Op, mailOf, target, wide, worldOf}
+use Rattle.registers.specs.Layer.{Values, Event, Msg, Precondition, Valid, World, ask, from, reply, run, to, view}
+use Rattle.claims.specs.Ledger.{Op, mailOf, setsOf, target, wide, worldOf}
 use Rattle.registers.specs.Layer as R
-use Rattle.channel.specs.Automaton as C
+use Rattle.automaton.specs.Automaton as C
 
 module _ {X Z M : Type 0} (f : Z → X) (see : X → Act M) (rk : M → ℕ) where
   promise-out : (E : List Z) → Promise see rk (map f E) → Promise (λ z. see (f z)) rk E
@@ -47,18 +45,18 @@ module _ {X Z M : Type 0} (f : Z → X) (see : X → Act M) (rk : M → ℕ) whe
 
 -- ---- the two layers
 
-pub data Joint : Type 0 where
-  request : ℕ → Joint
-  perform : ℕ → Joint
-  send : ℕ → Joint
-  dispatch : Msg → Joint
-  take : ℕ → Msg → Joint
-  join : Msg → Joint
-  deliver : Msg → ℕ → Joint
-  report : ℕ → Joint
-  idle : Joint
+pub data Joint (U : Values) : Type 0 where
+  request : ℕ → Joint U
+  perform : ℕ → Joint U
+  send : ℕ → Joint U
+  dispatch : Msg U → Joint U
+  take : ℕ → Msg U → Joint U
+  join : Msg U → Joint U
+  deliver : Msg U → ℕ → Joint U
+  report : ℕ → U .Val → Joint U
+  idle : Joint U
 
-abbrev pub upper : Joint → Event
+abbrev pub upper : {U : Values} → Joint U → Event U
 upper (request k) = R.request k
 upper (perform k) = R.perform k
 upper (send k) = R.send k
@@ -66,10 +64,10 @@ upper (dispatch m) = R.dispatch m
 upper (take i m) = R.idle
 upper (join m) = R.idle
 upper (deliver m i) = R.deliver m i
-upper (report k) = R.report k
+upper (report k v) = R.report k v
 upper idle = R.idle
 
-abbrev pub lower : Joint → Step Msg
+abbrev pub lower : {U : Values} → Joint U → Step (Msg U)
 lower (request k) = rest
 lower (perform k) = rest
 lower (send k) = rest
@@ -77,44 +75,45 @@ lower (dispatch m) = mcast m
 lower (take i m) = C.take i m
 lower (join m) = C.join m
 lower (deliver m i) = receive m i
-lower (report k) = rest
+lower (report k v) = rest
 lower idle = rest
 
-abbrev pub eqMsg : Msg → Msg → Bool
+abbrev pub eqMsg : {U : Values} → Msg U → Msg U → Bool
 eqMsg (ask j) (ask k) = eqb j k
-eqMsg (ask j) (reply k) = false
-eqMsg (reply j) (ask k) = false
-eqMsg (reply j) (reply k) = eqb j k
+eqMsg (ask j) (reply k w) = false
+eqMsg (reply j v) (ask k) = false
+eqMsg {U} (reply j v) (reply k w) = eqb j k && U .same v w
 
-pub eqMsg-eq : (m n : Msg) → eqMsg m n ≡ true → m ≡ n
+pub eqMsg-eq : {U : Values} (m n : Msg U) → eqMsg m n ≡ true → m ≡ n
 eqMsg-eq (ask j) (ask k) e = ap ask (eqb-true j k e)
-eqMsg-eq (ask j) (reply k) e = absurd (false≢true e)
-eqMsg-eq (reply j) (ask k) e = absurd (false≢true e)
-eqMsg-eq (reply j) (reply k) e = ap reply (eqb-true j k e)
+eqMsg-eq (ask j) (reply k w) e = absurd (false≢true e)
+eqMsg-eq (reply j v) (ask k) e = absurd (false≢true e)
+eqMsg-eq {U} (reply j v) (reply k w) e = ap₂ reply (eqb-true j k (and-fst (eqb j k) _ e)) (U .same-eq v w (and-snd (eqb j k) _ e))
 
-pub eqMsg-refl : (m : Msg) → eqMsg m m ≡ true
+pub eqMsg-refl : {U : Values} (m : Msg U) → eqMsg m m ≡ true
 eqMsg-refl (ask k) = eqb-refl k
-eqMsg-refl (reply k) = eqb-refl k
+eqMsg-refl {U} (reply k v) = and-intro (eqb-refl k) (U .same-refl v)
 
 -- the run's operations and chosen cards are those of a ledger
-module _ (P : Placement) (ok : placementRefusal P ≡ 0) (ops : List Op) (chosen : ℕ → Option ℕ) where
-  abbrev W : World
+module _ {U : Values} (P : Placement) (ok : placementRefusal P ≡ 0) (ops : List Op) (chosen : ℕ → Option ℕ) where
+  abbrev W : World U
   W = worldOf P ops chosen
 
   -- a message that is not for more cards is for its target
-  pub narrow : (m : Msg) → wide P W m ≡ false → (i : ℕ) → to W m i ≡ eqb i (target P W m)
-  narrow (ask k) e i = go (W .upd k) refl
+  pub narrow : (m : Msg U) → wide (setsOf ops) W m ≡ false → (i : ℕ) → to W m i ≡ eqb i (target (setsOf ops) W m)
+  narrow (ask k) e i = go (W .upd k) (several (setsOf ops k)) e
     where
-      go : (t : Bool) → W .upd k ≡ t → cond t (W .copy (W .reg k) i) (eqb i (W .chosen k)) ≡ eqb i (cond t (soleOf (holders P (W .reg k))) (W .chosen k))
-      go true u = only P ok (W .reg k) (single-of (holders P (W .reg k)) (rw u at e)) i
-      go false u = refl
-  narrow (reply k) e i = refl
+      go : (t u : Bool) → (t && u) ≡ false → cond t (cond u (memberOf (setsOf ops k) i) (eqb i (soleOf (setsOf ops k)))) (eqb i (W .chosen k)) ≡ eqb i (cond t (soleOf (setsOf ops k)) (W .chosen k))
+      go true true q = absurd (true≢false q)
+      go true false q = refl
+      go false u q = refl
+  narrow (reply k w) e i = refl
 
-  abbrev pub net : Network Msg
-  net = record { mail = mailOf P W; from = from W; single = narrow; eqm = eqMsg; eqm-eq = eqMsg-eq; eqm-refl = eqMsg-refl }
+  abbrev pub net : Network (Msg U)
+  net = record { mail = mailOf (setsOf ops) W; from = from W; single = narrow; eqm = eqMsg; eqm-eq = eqMsg-eq; eqm-refl = eqMsg-refl }
 
   -- when a step of the two layers may be taken
-  abbrev pub Ready : List Joint → Joint → Type 0
+  abbrev pub Ready : List (Joint U) → Joint U → Type 0
   Ready E (request k) = Precondition W (run W (map upper E)) (R.request k)
   Ready E (perform k) = Precondition W (run W (map upper E)) (R.perform k)
   Ready E (send k) = Precondition W (run W (map upper E)) (R.send k)
@@ -122,14 +121,14 @@ module _ (P : Placement) (ok : placementRefusal P ≡ 0) (ops : List Op) (chosen
   Ready E (take i m) = ChannelPrecondition net (map lower E) (C.take i m)
   Ready E (join m) = ChannelPrecondition net (map lower E) (C.join m)
   Ready E (deliver m i) = ChannelPrecondition net (map lower E) (receive m i)
-  Ready E (report k) = Precondition W (run W (map upper E)) (R.report k)
+  Ready E (report k v) = Precondition W (run W (map upper E)) (R.report k v)
   Ready E idle = Unit {0}
 
-  abbrev pub JointExecution : List Joint → Type 0
+  abbrev pub JointExecution : List (Joint U) → Type 0
   JointExecution [] = Unit {0}
   JointExecution (e ∷ E) = Ready E e × JointExecution E
 
-  agree : (e : Joint) → external net (lower e) ≡ view W (upper e)
+  agree : (e : Joint U) → external net (lower e) ≡ view W (upper e)
   agree (request k) = refl
   agree (perform k) = refl
   agree (send k) = refl
@@ -137,23 +136,23 @@ module _ (P : Placement) (ok : placementRefusal P ≡ 0) (ops : List Op) (chosen
   agree (take i m) = refl
   agree (join m) = refl
   agree (deliver m i) = refl
-  agree (report k) = refl
+  agree (report k v) = refl
   agree idle = refl
 
   -- the channel's promise, in the upper layer's eyes
-  pub promised : (E : List Joint) (v : ChannelExecution net (map lower E)) → Promise (view W) (rank net (map lower E)) (map upper E)
+  pub promised : (E : List (Joint U)) (v : ChannelExecution net (map lower E)) → Promise (view W) (rank net (map lower E)) (map upper E)
   promised E v = promise-into upper (view W) (rank net (map lower E)) E
       (subst (λ s. Promise s (rank net (map lower E)) E) (fun-ext agree)
       (promise-out lower (external net) (rank net (map lower E)) E (keeps-promise net (map lower E) v)))
 
-  pub mcasts-dispatches : (m : Msg) (e : Joint) → Mcasts m (lower e) → Dispatches m (upper e)
+  pub mcasts-dispatches : (m : Msg U) (e : Joint U) → Mcasts m (lower e) → Dispatches m (upper e)
   mcasts-dispatches m (dispatch n) h = h
 
-  pub both : (E : List Joint) → JointExecution E → Valid W (map upper E) × ChannelExecution net (map lower E)
+  pub both : (E : List (Joint U)) → JointExecution E → Valid W (map upper E) × ChannelExecution net (map lower E)
   both [] w = (tt, tt)
   both (e ∷ E) w = go e (w .0) (both E (w .1))
     where
-      go : (e : Joint) → Ready E e → Valid W (map upper E) × ChannelExecution net (map lower E) → Valid W (map upper (e ∷ E)) × ChannelExecution net (map lower (e ∷ E))
+      go : (e : Joint U) → Ready E e → Valid W (map upper E) × ChannelExecution net (map lower E) → Valid W (map upper (e ∷ E)) × ChannelExecution net (map lower (e ∷ E))
       go (request k) c r = ((c, r .0), (tt, r .1))
       go (perform k) c r = ((c, r .0), (tt, r .1))
       go (send k) c r = ((c, r .0), (tt, r .1))
@@ -166,5 +165,5 @@ module _ (P : Placement) (ok : placementRefusal P ≡ 0) (ops : List Op) (chosen
       go (take i m) c r = ((tt, r .0), (c, r .1))
       go (join m) c r = ((tt, r .0), (c, r .1))
       go (deliver m i) c r = ((tt, r .0), (c, r .1))
-      go (report k) c r = ((c, r .0), (tt, r .1))
+      go (report k v) c r = ((c, r .0), (tt, r .1))
       go idle c r = ((tt, r .0), (tt, r .1))

@@ -6,41 +6,42 @@ use mathlib.Core.Bool.{Bool, cond, false, true}
 use mathlib.Core.List.{List, map, _∷_}
 use mathlib.Core.Option.{Option, none, some}
 use mathlib.Core.Path.{ap, refl, subst, sym, _∙_, _≡_}
-use Rattle.channel.proofs.Agreement.{Agrees}
-use Rattle.channel.proofs.ChannelKeeps.{channelStep-keeps}
-use Rattle.channel.proofs.JoinLists.{joins-inv}
-use Rattle.channel.specs.Automaton.{ChannelExecution, ChannelPrecondition, Step}
-use Rattle.channel.specs.Network.{Network}
-use Rattle.channel.specs.State.{Tagged, arriving, channelStep, landing, nth, released, taking}
-use Rattle.channel.specs.TotalOrder.{rank}
-use Rattle.channel.specs.Trace.{steps-deliver, steps-single, steps-take}
+use Rattle.lists.specs.Places.{nth}
+use Rattle.automaton.proofs.Agreement.{Agrees}
+use Rattle.automaton.proofs.ChannelKeeps.{channelStep-keeps}
+use Rattle.automaton.proofs.JoinLists.{joins-inv}
+use Rattle.automaton.specs.Automaton.{ChannelExecution, ChannelPrecondition, Step}
+use Rattle.automaton.specs.Network.{Network}
+use Rattle.automaton.specs.State.{Tagged, arriving, channelStep, landing, released, taking}
+use Rattle.automaton.specs.TotalOrder.{rank}
+use Rattle.automaton.specs.Trace.{steps-deliver, steps-single, steps-take}
 use Rattle.lists.specs.Histories.{Any, In, here, now, there}
 use Rattle.names.specs.Placement.{Placement, placementRefusal}
 use Rattle.registers.proofs.Fresh.{sender}
 use Rattle.registers.proofs.Messages.{dispatched, outbox}
 use Rattle.registers.proofs.Ordered.{ordered}
 use Rattle.registers.specs.Events.{Posts}
-use Rattle.registers.specs.Layer.{Msg, Precondition, World, ask, from, next, opOf, reply, run}
+use Rattle.registers.specs.Layer.{Values, Msg, Precondition, World, ask, from, next, opOf, reply, run}
 use Rattle.claims.proofs.Executions.{Enabled, Holds, joined, trace-single, trace-take}
 use Rattle.claims.proofs.Joint.{Joint, both, join, lower, net, promised, take, upper}
 use Rattle.claims.proofs.LedgerRun.{Sim, flight-dest, flows, joined-posts, lower-joined, ord, posts-joined, rk, run-joined, same-mcast, same-sent, state-on, valid, works-joined}
 use Rattle.claims.proofs.SameWorld.{Same, dispatch-same, land-same, next-deliver, next-dispatch, take-same}
-use Rattle.claims.specs.Ledger.{Ledger, Op, deliver, dispatch, mailOf, step, takeBroadcast, takeSingle, world, worldOf}
+use Rattle.claims.specs.Ledger.{Ledger, Op, deliver, dispatch, ledgerMail, step, takeBroadcast, takeSingle, worldOf}
 use Rattle.registers.specs.Layer as R
-use Rattle.channel.specs.State as C
-use Rattle.channel.specs.Automaton as A
+use Rattle.automaton.specs.State as C
+use Rattle.automaton.specs.Automaton as A
 
-module _ (P : Placement) (ok : placementRefusal P ≡ 0) where
+module _ {U : Values} (P : Placement) (ok : placementRefusal P ≡ 0) where
   module _ (opsF : List Op) (atF : ℕ → Option ℕ) where
-    abbrev WF : World
+    abbrev WF : World U
     WF = worldOf P opsF atF
 
-    abbrev NF : Network Msg
+    abbrev NF : Network (Msg U)
     NF = net P ok opsF atF
 
-    module _ (b : Ledger) (E : List Joint) (h : Holds b opsF atF) (s : Sim P ok opsF atF b E) where
+    module _ (b : Ledger U) (E : List (Joint U)) (h : Holds b opsF atF) (s : Sim P ok opsF atF b E) where
       -- 6
-      pub sim-dispatch : (i : ℕ) (m : Msg) → Enabled P b (dispatch i m) → Sim P ok opsF atF (step P b (dispatch i m)) (Joint.dispatch m ∷ E)
+      pub sim-dispatch : (i : ℕ) (m : Msg U) → Enabled P b (dispatch i m) → Sim P ok opsF atF (step P b (dispatch i m)) (Joint.dispatch m ∷ E)
       sim-dispatch i m f = record {
         state= = next-dispatch P (b .ops) opsF (b .chosen) atF (b .layer) m sm ∙ state-on P ok opsF atF b E h s (R.dispatch m);
         channel= = subst (λ w. Agrees NF w (Cast ∷ map lower E)) (sym (dispatch-same P (b .ops) opsF (b .chosen) atF (b .channel) i m sm))
@@ -51,7 +52,7 @@ module _ (P : Placement) (ok : placementRefusal P ≡ 0) where
         posted-at = p;
       }
         where
-          Cast : Step Msg
+          Cast : Step (Msg U)
           Cast = A.mcast m
 
           in-out : In m ((run WF (map upper E)) .out i)
@@ -73,12 +74,12 @@ module _ (P : Placement) (ok : placementRefusal P ≡ 0) where
       pub sim-takeBroadcast : (i : ℕ) → Sim P ok opsF atF (step P b (takeBroadcast i)) (trace-take b i (nth (b .channel .sent) (b .channel .taken i)) E)
       sim-takeBroadcast i = go (nth (b .channel .sent) (b .channel .taken i)) refl (channelStep-keeps NF (b .channel) (map lower E) (s .channel=) (flows P ok opsF atF b E h s) (C.takeBroadcast i) tt)
         where
-          w= : (o : Option Msg) → nth (b .channel .sent) (b .channel .taken i) ≡ o → taking (mailOf P (world P b)) (b .channel) i o ≡ taking (NF .mail) (b .channel) i o
+          w= : (o : Option (Msg U)) → nth (b .channel .sent) (b .channel .taken i) ≡ o → taking (ledgerMail P b) (b .channel) i o ≡ taking (NF .mail) (b .channel) i o
           w= o e = take-same P (b .ops) opsF (b .chosen) atF (b .channel) i o (λ m q. same-mcast P ok opsF atF b E h s m (s .channel= .sent= (b .channel .taken i) m (e ∙ q) .1))
 
-          go : (o : Option Msg) → nth (b .channel .sent) (b .channel .taken i) ≡ o
+          go : (o : Option (Msg U)) → nth (b .channel .sent) (b .channel .taken i) ≡ o
               → Agrees NF (taking (NF .mail) (b .channel) i o) (steps-take (b .channel) i o (map lower E)) × ChannelExecution NF (steps-take (b .channel) i o (map lower E))
-              → Sim P ok opsF atF (record { ops = b .ops; chosen = b .chosen; layer = b .layer; channel = taking (mailOf P (world P b)) (b .channel) i o }) (trace-take b i o E)
+              → Sim P ok opsF atF (record { ops = b .ops; chosen = b .chosen; layer = b .layer; channel = taking (ledgerMail P b) (b .channel) i o }) (trace-take b i o E)
           go none e k = record { state= = s .state=; channel= = s .channel=; works = s .works; count= = s .count=; at-posted = s .at-posted; posted-at = s .posted-at }
           go (some m) e k = record {
             state= = s .state= ∙ sym (run-joined P ok opsF atF rel (take i m ∷ E));
@@ -90,7 +91,7 @@ module _ (P : Placement) (ok : placementRefusal P ≡ 0) where
             posted-at = λ j x. p j (posts-joined rel (take i m ∷ E) x);
           }
             where
-              rel : List Msg
+              rel : List (Msg U)
               rel = released (suc (b .channel .taken i)) (b .channel .held i)
 
               p : (j : ℕ) → Any (Posts j) (R.idle ∷ map upper E) → (c : ℕ) × (b .chosen j ≡ some c)
@@ -100,19 +101,19 @@ module _ (P : Placement) (ok : placementRefusal P ≡ 0) where
       pub sim-takeSingle : (c : ℕ) → Sim P ok opsF atF (step P b (takeSingle c)) (trace-single P b (b .channel .flight c) E)
       sim-takeSingle c = go (b .channel .flight c) refl (channelStep-keeps NF (b .channel) (map lower E) (s .channel=) (flows P ok opsF atF b E h s) (C.takeSingle c) tt)
         where
-          go : (o : Option (Tagged Msg)) → b .channel .flight c ≡ o
+          go : (o : Option (Tagged (Msg U))) → b .channel .flight c ≡ o
               → Agrees NF (arriving (NF .mail) (b .channel) c o) (steps-single (NF .mail) (b .channel) o (map lower E)) × ChannelExecution NF (steps-single (NF .mail) (b .channel) o (map lower E))
-              → Sim P ok opsF atF (record { ops = b .ops; chosen = b .chosen; layer = b .layer; channel = arriving (mailOf P (world P b)) (b .channel) c o }) (trace-single P b o E)
+              → Sim P ok opsF atF (record { ops = b .ops; chosen = b .chosen; layer = b .layer; channel = arriving (ledgerMail P b) (b .channel) c o }) (trace-single P b o E)
           go none e k = record { state= = s .state=; channel= = s .channel=; works = s .works; count= = s .count=; at-posted = s .at-posted; posted-at = s .posted-at }
           go (some x) e k =
               subst (λ w. Sim P ok opsF atF (record { ops = b .ops; chosen = b .chosen; layer = b .layer; channel = w }) (trace-single P b (some x) E)) (sym w=)
               (subst (λ d. Sim P ok opsF atF (record { ops = b .ops; chosen = b .chosen; layer = b .layer; channel = arriving (NF .mail) (b .channel) c (some x) }) (cond (leb (x .mark) (b .channel .taken d)) (join (x .msg) ∷ E) E)) (sym d=)
               (into (leb (x .mark) (b .channel .taken (NF .mail .dest (x .msg)))) k))
             where
-              w= : arriving (mailOf P (world P b)) (b .channel) c (some x) ≡ arriving (NF .mail) (b .channel) c (some x)
+              w= : arriving (ledgerMail P b) (b .channel) c (some x) ≡ arriving (NF .mail) (b .channel) c (some x)
               w= = land-same P (b .ops) opsF (b .chosen) atF (b .channel) c (some x) (λ y q. same-mcast P ok opsF atF b E h s (y .msg) (s .channel= .flies c y (e ∙ q) .0 .mcast-it))
 
-              d= : (mailOf P (world P b)) .dest (x .msg) ≡ NF .mail .dest (x .msg)
+              d= : (ledgerMail P b) .dest (x .msg) ≡ NF .mail .dest (x .msg)
               d= = flight-dest P ok opsF atF b E h s c x e
 
               p : (j : ℕ) → Any (Posts j) (R.idle ∷ map upper E) → (i : ℕ) × (b .chosen j ≡ some i)
@@ -124,7 +125,7 @@ module _ (P : Placement) (ok : placementRefusal P ≡ 0) where
               into false k = record { state= = s .state=; channel= = k .0; works = s .works; count= = s .count=; at-posted = s .at-posted; posted-at = s .posted-at }
 
       -- 9
-      pub sim-deliver : (m : Msg) (i : ℕ) → Enabled P b (deliver m i) → Sim P ok opsF atF (step P b (deliver m i)) (Joint.deliver m i ∷ E)
+      pub sim-deliver : (m : Msg U) (i : ℕ) → Enabled P b (deliver m i) → Sim P ok opsF atF (step P b (deliver m i)) (Joint.deliver m i ∷ E)
       sim-deliver m i f = record {
         state= = next-deliver P (b .ops) opsF (b .chosen) atF (b .layer) m i sm ∙ state-on P ok opsF atF b E h s (R.deliver m i);
         channel= = subst (λ l. Agrees NF (channelStep (NF .mail) (b .channel) (C.deliver i)) (steps-deliver l i (map lower E))) (f .1)
@@ -148,9 +149,9 @@ module _ (P : Placement) (ok : placementRefusal P ≡ 0) where
           count-same : length (b .ops) ≡ (next WF (run WF (map upper E)) (R.deliver m i)) .count
           count-same = s .count= ∙ go m
             where
-              go : (n : Msg) → (run WF (map upper E)) .count ≡ (next WF (run WF (map upper E)) (R.deliver n i)) .count
+              go : (n : Msg U) → (run WF (map upper E)) .count ≡ (next WF (run WF (map upper E)) (R.deliver n i)) .count
               go (ask k) = refl
-              go (reply k) = refl
+              go (reply k w) = refl
 
           p : (j : ℕ) → Any (Posts j) (R.deliver m i ∷ map upper E) → (c : ℕ) × (b .chosen j ≡ some c)
           p j (there x) = s .posted-at j x

@@ -9,31 +9,34 @@ use mathlib.Core.Logic.{inl, inr, _⊎_}
 use mathlib.Core.Option.{Option·map, some}
 use mathlib.Core.Path.{ap, refl, subst, sym, _∙_, _≡_}
 use native.Mathlib.Omega.{arith}
-use Rattle.channel.specs.Automaton.{after}
-use Rattle.channel.specs.Renaming.{tag-map}
-use Rattle.channel.specs.State.{ChannelState, Tagged, arriving, landing, nth, taking}
+use Rattle.lists.specs.Places.{nth}
+use Rattle.automaton.specs.Automaton.{after}
+use Rattle.automaton.specs.Renaming.{tag-map}
+use Rattle.automaton.specs.State.{ChannelState, Tagged, arriving, landing, taking}
 use Rattle.lists.specs.Histories.{In, here}
 use Rattle.lists.specs.Maps.{length-filter-map, map-head, map-some}
 use Rattle.lists.specs.Queues.{push}
 use Rattle.lists.specs.Tests.{and-fst, eqb-refl}
 use Rattle.names.specs.CardSet.{memberOf, several, soleOf}
 use Rattle.names.specs.Placement.{Placement, copy, home, placementRefusal, tasks}
-use Rattle.registers.specs.Layer.{Msg}
+use Rattle.registers.specs.Layer.{Msg, unvalued}
 use Rattle.claims.proofs.CardSets.{held-somewhere, some-card, tasks-low}
 use Rattle.claims.proofs.ChannelEffects.{does-single, does-take}
 use Rattle.claims.proofs.ChannelLimits.{Free, Modest, modest-single, modest-take}
+use Rattle.claims.proofs.Current.{asked-current, holds-now}
 use Rattle.claims.proofs.Executions.{Execution}
 use Rattle.claims.proofs.NumbersMean.{not-crowded}
 use Rattle.claims.proofs.OnTheWay.{broadcasts-few, flight-free, flight-task, held-short, taken-few}
 use Rattle.claims.proofs.Range.{Small, small}
 use Rattle.claims.proofs.RefusalExact.{misformed-small, refusal-exact}
 use Rattle.claims.proofs.Room.{asks-read, asks-update, held-16, inbox-48, number-left, outbox-16, reply-room, send-room}
-use Rattle.claims.proofs.Shown.{alike, answered-alike, same-refusal, showMsg, shown, vals}
+use Rattle.claims.proofs.Forgetting.{book-forget, forget, forget-alike, forgetLedger, number-forget}
+use Rattle.claims.proofs.Shown.{alike, answered-alike, numbers, same-refusal, showMsg, shown}
 use Rattle.claims.proofs.Steady.{Steady, steady}
 use Rattle.claims.proofs.Taken.{executes}
 use Rattle.claims.proofs.Together.{together}
 use Rattle.claims.specs.Command.{Command}
-use Rattle.claims.specs.Ledger.{Action, decodedNumber, ledger, mailOf, numberOf, paper, sightOf, wide, world}
+use Rattle.claims.specs.Ledger.{Action, decodedNumber, ledger, ledgerMail, numberOf, paper, setsOf, sightOf, wide, world}
 use Rattle.claims.specs.Limits.{WithinLimits}
 use Rattle.claims.specs.Numbers.{Comes, Misformed, alone-here, busy-read, busy-update, copy-here, crowded, far-behind, held-full, inbox-full-single, inbox-full-take, inboxAfter, last-broadcast, last-read, last-update, no-broadcast, no-copy, no-holder, no-letter, no-message, nobody, none-in-flight, not-alone, not-asking, not-done, not-read, not-update, outbox-full-read, outbox-full-reply, outbox-full-update, second-in-flight, undelivered}
 use Rattle.claims.specs.Published.{Letter, Published, answered, begin, mail, sight}
@@ -43,15 +46,15 @@ use Rattle.claims.specs.Steps.{Decoded, RawStep, bad, decode, good}
 module _ (P : Placement) (ok : placementRefusal P ≡ 0) where
   -- ---- no outcome is 6
 
-  module _ (ds : List Action) (f : Execution P ds) (small : Small P ds) (a : Steady P (shown P ds)) where
+  module _ (ds : List (Action numbers)) (f : Execution P ds) (small : Small P ds) (a : Steady P (shown P ds)) where
     abbrev s : Published
     s = shown P ds
 
     abbrev w : ChannelState Letter
     w = s .channel
 
-    abbrev names : Msg → Letter
-    names = showMsg P ((ledger P ds) .ops) ((ledger P ds) .chosen) ((vals P ds) .found)
+    abbrev names : Msg numbers → Letter
+    names = showMsg P ((ledger P ds) .ops) ((ledger P ds) .chosen)
 
     -- step 7: the inbox that it makes
     take-room : (i : ℕ) (m : Letter) → nth (w .sent) (w .taken i) ≡ some m → (memberOf (m .to) i ≡ false) ⊎ (undelivered P s i < 32) → length (inboxAfter P s i m) ≤ 48
@@ -123,13 +126,13 @@ module _ (P : Placement) (ok : placementRefusal P ≡ 0) where
     no-six (far-behind m r j q u l g) e = omega arith
     no-six (crowded m q u l) e = omega arith
     no-six (outbox-full-read {c} {j} x q p g l) e =
-        let r = asks-read ((ledger P ds) .ops) ((vals P ds) .found) ((ledger P ds) .layer .status c) x q in
-        let y = send-room P ok ds f small c (r .0) j (r .1) (λ u. subst (λ z. copy P z j ≡ true) (sym (r .3)) g) (ltb-true j (P .cards) (and-fst (ltb j (P .cards)) _ g)) in
+        let r = asks-read ((ledger P ds) .ops) ((ledger P ds) .layer .status c) x q in
+        let y = send-room P ok ds f small c (r .0) j (r .1) (λ u. holds-now P ok ds f (r .0) j (asked-current P ok ds f c (r .0) (r .1)) ∙ subst (λ z. copy P z j ≡ true) (sym (r .3)) g) (ltb-true j (P .cards) (and-fst (ltb j (P .cards)) _ g)) in
         let z = out-length (home P c) in
         omega arith
     no-six (nobody {c} x n v q p z) e = let l = held-somewhere P ok x (a .asks c x n v q) in omega arith
     no-six (outbox-full-update {c} x n v q p l) e =
-        let r = asks-update ((ledger P ds) .ops) ((vals P ds) .found) ((ledger P ds) .layer .status c) x n v q in
+        let r = asks-update ((ledger P ds) .ops) ((ledger P ds) .layer .status c) x n v q in
         let y = send-room P ok ds f small c (r .0) 0 (r .1) (λ u. absurd (true≢false (sym (r .2) ∙ u))) (let k = some-card P ok in omega arith) in
         let z = out-length (home P c) in
         omega arith
@@ -149,14 +152,14 @@ module _ (P : Placement) (ok : placementRefusal P ≡ 0) where
     no-six (held-full {c} x q p l) e = let y = held-room c x q p in omega arith
     no-six (outbox-full-reply {i} m r q p l) e =
         let t = map-head names ((ledger P ds) .channel .inbox i) m r q in
-        let y = reply-room P ok ds f small (t .0) i (t .1) (t .2) (sym (answered-alike P ok ds f (t .0) i) ∙ ap (λ z. answered P z i) (t .3) ∙ p) in
+        let y = reply-room P ok ds f small (t .0) i (t .1) (t .2) (sym (answered-alike P ok ds f i (t .0) (t .1) (t .2)) ∙ ap (λ z. answered P z i) (t .3) ∙ p) in
         let z = out-length i in
         omega arith
 
   -- ---- from a start
 
   module _ (l : List RawStep) where
-    abbrev ds : List Action
+    abbrev ds : List (Action numbers)
     ds = paper P l
 
     steady-shown : Steady P (shown P ds)
@@ -168,47 +171,47 @@ module _ (P : Placement) (ok : placementRefusal P ≡ 0) where
       where
         go : Misformed P a 6 ⊎ ((c : Command) × (decode P a ≡ good c) × Comes P (shown P ds) 6 c) → ⊥
         go (inl m) = let r = misformed-small P a m in omega arith
-        go (inr (c, d, x)) = no-six ds (executes P ok l) (small P l) steady-shown x refl
+        go (inr (c, d, x)) = no-six ds (executes numbers P ok l) (small numbers P l) steady-shown x refl
 
     -- and the ledger's number is never 6
-    pub ledger-never-6 : (a : RawStep) → numberOf P (ledger P ds) a ≡ 6 → ⊥
-    ledger-never-6 a e = never-6 a (ap (λ s. refusalOf P s a) (together P ok l) ∙ same (decode P a) ∙ e)
+    pub ledger-never-6 : (a : RawStep) → numberOf P (ledger P (paper {U = unvalued} P l)) a ≡ 6 → ⊥
+    ledger-never-6 a e = never-6 a (ap (λ s. refusalOf P s a) (together P ok l) ∙ same (decode P a) ∙ sym (number-forget numbers P l (decode P a)) ∙ e)
       where
         same : (d : Decoded) → decodedRefusal P (shown P ds) d ≡ decodedNumber P (ledger P ds) d
         same (bad n) = refl
-        same (good c) = same-refusal P ok ds (executes P ok l) c
+        same (good c) = same-refusal P ok ds (executes numbers P ok l) c
 
     -- the limits, for the published state
     pub published-limits : WithinLimits mail (P .cards) (sight P (finalFrom P begin l))
     published-limits = subst (λ s. WithinLimits mail (P .cards) (sight P s)) (sym (together P ok l)) (record {
-      outboxes = λ i. let x = outbox-16 P ok ds (executes P ok l) (small P l) i in let y = length-map ((ledger P ds) .layer .out i) names in omega arith;
-      inboxes = inbox-48 P ok ds (executes P ok l) (small P l) (steady-shown .modest);
+      outboxes = λ i. let x = outbox-16 P ok ds (executes numbers P ok l) (small numbers P l) i in let y = length-map ((ledger P ds) .layer .out i) names in omega arith;
+      inboxes = inbox-48 P ok ds (executes numbers P ok l) (small numbers P l) (steady-shown .modest);
       undelivered = steady-shown .modest .few;
-      held = held-16 P ok ds (executes P ok l) (small P l);
+      held = held-16 P ok ds (executes numbers P ok l) (small numbers P l);
       flights = flies;
-      broadcasts = let x = broadcasts-few P ok ds (executes P ok l) in let y = length-map ((ledger P ds) .channel .sent) names in omega arith;
+      broadcasts = let x = broadcasts-few P ok ds (executes numbers P ok l) in let y = length-map ((ledger P ds) .channel .sent) names in omega arith;
       requests = steady-shown .count;
-      counts = λ i h. ((let x = taken-few P ok ds (executes P ok l) i in let y = length-map ((ledger P ds) .channel .sent) names in omega arith), steady-shown .modest .near i h);
+      counts = λ i h. ((let x = taken-few P ok ds (executes numbers P ok l) i in let y = length-map ((ledger P ds) .channel .sent) names in omega arith), steady-shown .modest .near i h);
     })
       where
-        names : Msg → Letter
-        names = showMsg P ((ledger P ds) .ops) ((ledger P ds) .chosen) ((vals P ds) .found)
+        names : Msg numbers → Letter
+        names = showMsg P ((ledger P ds) .ops) ((ledger P ds) .chosen)
 
         flies : (c : ℕ) (x : Tagged Letter) → Option·map (tag-map names) ((ledger P ds) .channel .flight c) ≡ some x → x .msg .task ≡ c
         flies c x e =
             let y = map-some (tag-map names) ((ledger P ds) .channel .flight c) x e in
-            ap (λ z. z .msg .task) (sym (y .2)) ∙ alike P ok ds (executes P ok l) .task= (y .0 .msg) ∙ flight-task P ok ds (executes P ok l) c (y .0) (y .1)
+            ap (λ z. z .msg .task) (sym (y .2)) ∙ alike P ok ds (executes numbers P ok l) .task= (y .0 .msg) ∙ flight-task P ok ds (executes numbers P ok l) c (y .0) (y .1)
 
-    -- and for the ledger
-    pub ledger-limits : WithinLimits (mailOf P (world P (ledger P ds))) (P .cards) (sightOf P (ledger P ds))
-    ledger-limits = record {
-      outboxes = outbox-16 P ok ds f (small P l);
-      inboxes = λ i. let x = inbox-48 P ok ds f (small P l) (steady-shown .modest) i in let y = length-map ((ledger P ds) .channel .inbox i) names in omega arith;
+    -- for the ledger with values,
+    valued-limits : WithinLimits (ledgerMail P (ledger P ds)) (P .cards) (sightOf P (ledger P ds))
+    valued-limits = record {
+      outboxes = outbox-16 P ok ds f (small numbers P l);
+      inboxes = λ i. let x = inbox-48 P ok ds f (small numbers P l) (steady-shown .modest) i in let y = length-map ((ledger P ds) .channel .inbox i) names in omega arith;
       undelivered = λ i.
           let x = steady-shown .modest .few i in
-          let y = length-filter-map names (wide P (world P (ledger P ds))) (mail .multi) (alike P ok ds f .multi=) ((ledger P ds) .channel .inbox i) in
+          let y = length-filter-map names (wide (setsOf ((ledger P ds) .ops)) (world P (ledger P ds))) (mail .multi) (alike P ok ds f .multi=) ((ledger P ds) .channel .inbox i) in
           omega arith;
-      held = λ i. let x = held-short P ok ds f (tasks P) (small P l) i in omega (arith, tasks-low P ok);
+      held = λ i. let x = held-short P ok ds f (tasks P) (small numbers P l) i in omega (arith, tasks-low P ok);
       flights = flight-task P ok ds f;
       broadcasts = broadcasts-few P ok ds f;
       requests = steady-shown .count;
@@ -216,7 +219,25 @@ module _ (P : Placement) (ok : placementRefusal P ≡ 0) where
     }
       where
         f : Execution P ds
-        f = executes P ok l
+        f = executes numbers P ok l
 
-        names : Msg → Letter
-        names = showMsg P ((ledger P ds) .ops) ((ledger P ds) .chosen) ((vals P ds) .found)
+        names : Msg numbers → Letter
+        names = showMsg P ((ledger P ds) .ops) ((ledger P ds) .chosen)
+
+    -- and for the ledger
+    pub ledger-limits : WithinLimits (ledgerMail P (ledger P (paper {U = unvalued} P l))) (P .cards) (sightOf P (ledger P (paper {U = unvalued} P l)))
+    ledger-limits = subst (λ b. WithinLimits (ledgerMail P b) (P .cards) (sightOf P b)) (sym (book-forget numbers P l)) (record {
+      outboxes = λ i. let x = valued-limits .outboxes i in let y = length-map ((ledger P ds) .layer .out i) forget in omega arith;
+      inboxes = λ i. let x = valued-limits .inboxes i in let y = length-map ((ledger P ds) .channel .inbox i) forget in omega arith;
+      undelivered = λ i.
+          let x = valued-limits .undelivered i in
+          let y = length-filter-map forget (ledgerMail P (ledger P ds) .multi) (ledgerMail P (forgetLedger (ledger P ds)) .multi) (forget-alike P (ledger P ds) .multi=) ((ledger P ds) .channel .inbox i) in
+          omega arith;
+      held = λ i. let x = valued-limits .held i in let y = length-map ((ledger P ds) .channel .held i) (tag-map forget) in omega arith;
+      flights = λ c x e.
+          let y = map-some (tag-map forget) ((ledger P ds) .channel .flight c) x e in
+          ap (λ z. (ledgerMail P (forgetLedger (ledger P ds))) .task (z .msg)) (sym (y .2)) ∙ forget-alike P (ledger P ds) .task= (y .0 .msg) ∙ valued-limits .flights c (y .0) (y .1);
+      broadcasts = let x = valued-limits .broadcasts in let y = length-map ((ledger P ds) .channel .sent) forget in omega arith;
+      requests = valued-limits .requests;
+      counts = λ i h. let x = valued-limits .counts i h in let y = length-map ((ledger P ds) .channel .sent) forget in ((let z = x .0 in omega arith), (let z = x .1 in omega arith));
+    })

@@ -9,8 +9,9 @@ use mathlib.Core.Logic.{inl, inr, _↔_}
 use mathlib.Core.Option.{Option, Option·some-ne-none, none, some}
 use mathlib.Core.Path.{ap, refl, subst, sym, _∙_, _≡_}
 use native.Mathlib.Omega.{arith}
-use Rattle.channel.specs.Refusals.{broadcastRefusal, flightRefusal, otherwise, singleRefusal, takeRefusal}
-use Rattle.channel.specs.State.{ChannelState, Tagged, nth}
+use Rattle.lists.specs.Places.{nth}
+use Rattle.automaton.specs.Refusals.{broadcastRefusal, flightRefusal, otherwise, singleRefusal, takeRefusal}
+use Rattle.automaton.specs.State.{ChannelState, Tagged}
 use Rattle.lists.specs.Every.{each, each-at, each-failing}
 use Rattle.names.specs.CardSet.{memberOf, several, soleOf}
 use Rattle.names.specs.Placement.{Placement, copy, holders, home}

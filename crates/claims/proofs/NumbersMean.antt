@@ -9,8 +9,9 @@ use mathlib.Core.Logic.{inl, inr, _⊎_}
 use mathlib.Core.Option.{none}
 use mathlib.Core.Path.{ap, ap₂, refl, _∙_, _≡_}
 use native.Mathlib.Omega.{arith}
-use Rattle.channel.specs.Refusals.{broadcastRefusal, flightRefusal, otherwise, singleRefusal, takeRefusal}
-use Rattle.channel.specs.State.{ChannelState, nth}
+use Rattle.lists.specs.Places.{nth}
+use Rattle.automaton.specs.Refusals.{broadcastRefusal, flightRefusal, otherwise, singleRefusal, takeRefusal}
+use Rattle.automaton.specs.State.{ChannelState}
 use Rattle.lists.specs.Every.{each, each-fails, each-of}
 use Rattle.lists.specs.Tests.{and-false}
 use Rattle.names.specs.CardSet.{memberOf, soleOf}

@@ -34,7 +34,7 @@ isGood (bad n) = false
 isGood (good c) = true
 
 known-zero : known 0 ≡ false
-unfolding known leb
+unfolding known
 known-zero = refl
 
 known-high : (n : ℕ) → 10 < n → known n ≡ false

@@ -5,23 +5,23 @@ use lib.ListN.{length-map}
 use mathlib.Core.Bool.{Bool, cond, not, _&&_}
 use mathlib.Core.List.{List, [], map, _∷_}
 use mathlib.Core.Path.{ap, ap₂, refl, _≡_}
-use Rattle.channel.proofs.RenamedRefusals.{channelRefusal-map}
-use Rattle.channel.specs.Mail.{Mail}
-use Rattle.channel.specs.Refusals.{channelRefusal, otherwise}
-use Rattle.channel.specs.Renaming.{Alike, SentAlike, channel-map}
-use Rattle.channel.specs.State.{ChannelState}
+use Rattle.automaton.proofs.RenamedRefusals.{channelRefusal-map}
+use Rattle.automaton.specs.Mail.{Mail}
+use Rattle.automaton.specs.Refusals.{channelRefusal, otherwise}
+use Rattle.automaton.specs.Renaming.{Alike, SentAlike, channel-map}
+use Rattle.automaton.specs.State.{ChannelState}
 use Rattle.names.specs.Placement.{Placement, copy, holders, home}
 use Rattle.claims.specs.Command.{Command}
 use Rattle.claims.specs.Published.{stage}
 use Rattle.claims.specs.Refusals.{Sight, Stage, alone, asksRead, asksUpdate, deliverRefusal, done, headRefusal, outboxRoom, quiet, refusal, sendReadRefusal, sendUpdateRefusal, waits}
 use Rattle.claims.specs.Command as K
-use Rattle.channel.specs.State as C
+use Rattle.automaton.specs.State as C
 
 abbrev pub sight-map : {M N : Type 0} → (M → N) → Sight M → Sight N
 sight-map h s = record { requests = s .requests; stage = s .stage; out = λ i. map h (s .out i); channel = channel-map h (s .channel) }
 
 -- `p` and `q`: which messages put a reply in the outbox of the card where they are delivered
-module _ (P : Placement) {M N : Type 0} (h : M → N) (a : Mail M) (b : Mail N) (r : Alike h a b) (p : M → ℕ → Bool) (q : N → ℕ → Bool) (pq : (m : M) (i : ℕ) → q (h m) i ≡ p m i) where
+module _ (P : Placement) {M N : Type 0} (h : M → N) (a : Mail M) (b : Mail N) (r : Alike h a b) (p : M → ℕ → Bool) (q : N → ℕ → Bool) where
   room-map : (l : List M) → outboxRoom (map h l) ≡ outboxRoom l
   room-map l = ap (λ n. otherwise 6 (ltb n 16)) (length-map l h)
 
@@ -30,9 +30,9 @@ module _ (P : Placement) {M N : Type 0} (h : M → N) (a : Mail M) (b : Mail N) 
   head-map w u [] = refl
   head-map w u (m ∷ l) = channelRefusal-map h a b r (P .cards) w u (C.dispatch 0 m)
 
-  deliver-map : (i : ℕ) (l k : List M) → deliverRefusal P b q i (map h l) (map h k) ≡ deliverRefusal P a p i l k
-  deliver-map i l [] = refl
-  deliver-map i l (m ∷ k) = ap₂ (λ t n. cond t n 0) (pq m i) (room-map l)
+  deliver-map : (i : ℕ) (l k : List M) → ((m : M) (r : List M) → k ≡ m ∷ r → q (h m) i ≡ p m i) → deliverRefusal P b q i (map h l) (map h k) ≡ deliverRefusal P a p i l k
+  deliver-map i l [] pq = refl
+  deliver-map i l (m ∷ k) pq = ap₂ (λ t n. cond t n 0) (pq m k refl) (room-map l)
 
   send-read-map : (i j : ℕ) (l : List M) (s : Stage) → sendReadRefusal P i j (map h l) s ≡ sendReadRefusal P i j l s
   send-read-map i j l quiet = refl
@@ -48,15 +48,16 @@ module _ (P : Placement) {M N : Type 0} (h : M → N) (a : Mail M) (b : Mail N) 
   send-update-map i l waits = refl
   send-update-map i l done = refl
 
-  pub refusal-map : (s : Sight M) → SentAlike h a b (s .channel) → (c : Command) → refusal P b q (sight-map h s) c ≡ refusal P a p s c
+  -- `pq`: they agree on what is next to be delivered
+  pub refusal-map : (s : Sight M) → SentAlike h a b (s .channel) → ((i : ℕ) (m : M) (r : List M) → s .channel .inbox i ≡ m ∷ r → q (h m) i ≡ p m i) → (c : Command) → refusal P b q (sight-map h s) c ≡ refusal P a p s c
   unfolding channelRefusal
-  refusal-map s u (K.request-read c x) = refl
-  refusal-map s u (K.request-update c x f w) = refl
-  refusal-map s u (K.perform c) = refl
-  refusal-map s u (K.send-read c i) = send-read-map (home P c) i (s .out (home P c)) (s .stage c)
-  refusal-map s u (K.send-update c) = send-update-map (home P c) (s .out (home P c)) (s .stage c)
-  refusal-map s u (K.dispatch i) = head-map (s .channel) u (s .out i)
-  refusal-map s u (K.takeBroadcast i) = channelRefusal-map h a b r (P .cards) (s .channel) u (C.takeBroadcast i)
-  refusal-map s u (K.takeSingle c) = channelRefusal-map h a b r (P .cards) (s .channel) u (C.takeSingle c)
-  refusal-map s u (K.deliver i) = deliver-map i (s .out i) (s .channel .inbox i)
-  refusal-map s u (K.report c) = refl
+  refusal-map s u pq (K.request-read c x) = refl
+  refusal-map s u pq (K.request-update c x f w) = refl
+  refusal-map s u pq (K.perform c) = refl
+  refusal-map s u pq (K.send-read c i) = send-read-map (home P c) i (s .out (home P c)) (s .stage c)
+  refusal-map s u pq (K.send-update c) = send-update-map (home P c) (s .out (home P c)) (s .stage c)
+  refusal-map s u pq (K.dispatch i) = head-map (s .channel) u (s .out i)
+  refusal-map s u pq (K.takeBroadcast i) = channelRefusal-map h a b r (P .cards) (s .channel) u (C.takeBroadcast i)
+  refusal-map s u pq (K.takeSingle c) = channelRefusal-map h a b r (P .cards) (s .channel) u (C.takeSingle c)
+  refusal-map s u pq (K.deliver i) = deliver-map i (s .out i) (s .channel .inbox i) (pq i)
+  refusal-map s u pq (K.report c) = refl

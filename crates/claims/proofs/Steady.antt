@@ -7,8 +7,9 @@ use mathlib.Core.Bool.{Bool, cond, false, not, true, _&&_}
 use mathlib.Core.List.{List, [], _∷_}
 use mathlib.Core.Path.{ap, refl, _≡_}
 use native.Mathlib.Omega.{arith}
-use Rattle.channel.specs.Refusals.{otherwise}
-use Rattle.channel.specs.State.{ChannelState, channelStep, nth}
+use Rattle.lists.specs.Places.{nth}
+use Rattle.automaton.specs.Refusals.{otherwise}
+use Rattle.automaton.specs.State.{ChannelState, channelStep}
 use Rattle.lists.specs.Queues.{pop}
 use Rattle.names.specs.CardSet.{justOf}
 use Rattle.names.specs.Placement.{Placement, copy, holders, home, primary, registers}
@@ -25,7 +26,7 @@ use Rattle.claims.specs.PublishedRun.{afterDecoded, finalFrom}
 use Rattle.claims.specs.Refusals.{headRefusal, requestRefusal}
 use Rattle.claims.specs.Steps.{Decoded, RawStep, bad, decode, good}
 use Rattle.claims.specs.Command as K
-use Rattle.channel.specs.State as C
+use Rattle.automaton.specs.State as C
 
 abbrev pub updateOn : Doing → ℕ
 updateOn quiet = 0

@@ -88,15 +88,15 @@ pub record Names (n : ℕ) (task register card chosen function : Bool) : Type 0 
   pub function= : namesFunction n ≡ function
 
 pub names-2 : Names 2 true true false false true
-unfolding known namesTask namesRegister namesCard namesChosen namesFunction eqb leb
+unfolding known namesTask namesRegister namesCard namesChosen namesFunction
 names-2 = record { is-known = refl; task= = refl; register= = refl; card= = refl; chosen= = refl; function= = refl }
 
 pub names-4 : Names 4 true false false true false
-unfolding known namesTask namesRegister namesCard namesChosen namesFunction eqb leb
+unfolding known namesTask namesRegister namesCard namesChosen namesFunction
 names-4 = record { is-known = refl; task= = refl; register= = refl; card= = refl; chosen= = refl; function= = refl }
 
 pub task-names : {n : ℕ} → OfTask n → (known n ≡ true) × (namesTask n ≡ true)
-unfolding known namesTask eqb leb
+unfolding known namesTask
 task-names OfTask.one = (refl, refl)
 task-names OfTask.two = (refl, refl)
 task-names OfTask.three = (refl, refl)
@@ -106,13 +106,13 @@ task-names OfTask.eight = (refl, refl)
 task-names OfTask.ten = (refl, refl)
 
 pub card-names : {n : ℕ} → OfCard n → Names n false false true false false
-unfolding known namesTask namesRegister namesCard namesChosen namesFunction eqb leb
+unfolding known namesTask namesRegister namesCard namesChosen namesFunction
 card-names OfCard.six = record { is-known = refl; task= = refl; register= = refl; card= = refl; chosen= = refl; function= = refl }
 card-names OfCard.seven = record { is-known = refl; task= = refl; register= = refl; card= = refl; chosen= = refl; function= = refl }
 card-names OfCard.nine = record { is-known = refl; task= = refl; register= = refl; card= = refl; chosen= = refl; function= = refl }
 
 pub register-names : {n : ℕ} → OfRegister n → (known n ≡ true) × (namesTask n ≡ true) × (namesRegister n ≡ true)
-unfolding known namesTask namesRegister eqb leb
+unfolding known namesTask namesRegister
 register-names OfRegister.one = (refl, refl, refl)
 register-names OfRegister.two = (refl, refl, refl)
 

@@ -7,8 +7,9 @@ use mathlib.Core.List.{List, [], _++_, _∷_}
 use mathlib.Core.Option.{Option, none, some}
 use mathlib.Core.Path.{refl, _∙_, _≡_}
 use native.Mathlib.Omega.{arith}
-use Rattle.channel.specs.Refusals.{flightRefusal, otherwise, singleRefusal, takeRefusal}
-use Rattle.channel.specs.State.{ChannelState, Tagged, nth, released}
+use Rattle.lists.specs.Places.{nth}
+use Rattle.automaton.specs.Refusals.{flightRefusal, otherwise, singleRefusal, takeRefusal}
+use Rattle.automaton.specs.State.{ChannelState, Tagged, released}
 use Rattle.lists.specs.Every.{each}
 use Rattle.lists.specs.Filters.{filter}
 use Rattle.lists.specs.Queues.{push}

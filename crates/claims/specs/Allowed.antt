@@ -9,8 +9,9 @@ use lib.ListN.{length}
 use Rattle.lists.specs.Every.{each}
 use Rattle.lists.specs.Filters.{filter}
 use Rattle.lists.specs.Queues.{push}
+use Rattle.lists.specs.Places.{nth}
 use Rattle.names.specs.Placement.{Placement, home, holders, copy}
-use Rattle.channel.specs.State.{ChannelState, Tagged, nth, released}
+use Rattle.automaton.specs.State.{ChannelState, Tagged, released}
 use Rattle.claims.specs.Command.{Command, request-read, request-update, perform, send-read, send-update, dispatch, takeBroadcast, takeSingle, deliver, report}
 use Rattle.claims.specs.Refusals.{alone}
 use Rattle.claims.specs.Published.{Doing, quiet, askingRead, askingUpdate, waiting, doneRead, doneUpdate, Letter, Published, mail, answered}

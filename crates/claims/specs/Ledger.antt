@@ -7,12 +7,13 @@ use mathlib.Core.Option.{Option, none, some, Option·getD}
 use lib.Dec.{eqb}
 use lib.ListN.{length, getD}
 use Rattle.names.specs.CardSet.{several, soleOf}
-use Rattle.names.specs.Placement.{Placement, home, holders, primary, copy}
-use Rattle.channel.specs.Mail.{Mail}
-use Rattle.channel.specs.State.{ChannelState, ChannelAction, initialChannel, channelStep}
-use Rattle.channel.specs.State as C
-use Rattle.registers.specs.Layer.{World, Msg, ask, reply, opOf, Status, State, start, base, answers, to, next}
+use Rattle.names.specs.Placement.{Placement, home, holders, primary}
+use Rattle.automaton.specs.Mail.{Mail}
+use Rattle.automaton.specs.State.{ChannelState, ChannelAction, initialChannel, channelStep}
+use Rattle.automaton.specs.State as C
+use Rattle.registers.specs.Layer.{Values, World, Msg, ask, reply, opOf, Status, State, start, base, answers, to, next}
 use Rattle.registers.specs.Layer as R
+use Rattle.claims.specs.Holders.{inSet}
 use Rattle.claims.specs.Command.{Command}
 use Rattle.claims.specs.Command as K
 use Rattle.claims.specs.Steps.{RawStep, Decoded, bad, good, decode}
@@ -28,26 +29,29 @@ pub record Op : Type 0 where
   pub upd : Bool
   pub fn : ℕ
   pub arg : ℕ
+  pub holders : ℕ  -- the copies of its register,
+  pub primary : ℕ  -- and the primary
 
-abbrev pub readOp : ℕ → ℕ → Op
-readOp c x = record { task = c; reg = x; upd = false; fn = 0; arg = 0 }
+abbrev pub readOp : Placement → ℕ → ℕ → Op
+readOp P c x = record { task = c; reg = x; upd = false; fn = 0; arg = 0; holders = holders P x; primary = primary P x }
 
-abbrev pub updateOp : ℕ → ℕ → ℕ → ℕ → Op
-updateOp c x f w = record { task = c; reg = x; upd = true; fn = f; arg = w }
+abbrev pub updateOp : Placement → ℕ → ℕ → ℕ → ℕ → Op
+updateOp P c x f w = record { task = c; reg = x; upd = true; fn = f; arg = w; holders = holders P x; primary = primary P x }
 
 -- stands for an operation that is not there
 abbrev pub noOp : Op
-noOp = readOp 0 0
+noOp = record { task = 0; reg = 0; upd = false; fn = 0; arg = 0; holders = 0; primary = 0 }
 
-pub record Ledger : Type 0 where
+-- With values U or, on paper, without: "values left out" is `unvalued`. The ledger that demand 3 speaks of (SerialOrder) is the one without.
+pub record Ledger (U : Values) : Type 0 where
   pub ops : List Op  -- the operations, "numbered from 0 in the order taken"
   pub chosen : ℕ → Option ℕ  -- by operation: the holder that a taken 4 chose
-  pub layer : State  -- what each task does, the outboxes, the updates applied on each card (the register layer, values left out)
-  pub channel : ChannelState Msg  -- broadcasts made and taken, messages in flight and held, inboxes (the channel)
+  pub layer : State U  -- what each task does, the outboxes, the updates applied on each card (the register layer)
+  pub channel : ChannelState (Msg U)  -- broadcasts made and taken, messages in flight and held, inboxes (the channel)
 
 -- "At first every task is quiet, every queue empty, nothing held or in flight, no broadcast made or taken."
-abbrev pub initialLedger : Ledger
-initialLedger = record { ops = []; chosen = λ k. none; layer = start; channel = initialChannel }
+abbrev pub initialLedger : {U : Values} → Ledger U
+initialLedger {U} = record { ops = []; chosen = λ k. none; layer = start U; channel = initialChannel }
 
 -- the operation of number k
 abbrev pub opAt : List Op → ℕ → Op
@@ -55,40 +59,47 @@ opAt ops k = getD ops k noOp
 
 -- ---- what a taken step is
 
-pub data Action : Type 0 where
-  request : Op → Action  -- 1, 2
-  perform : ℕ → ℕ → Action  -- 3: task, operation
-  send : ℕ → ℕ → ℕ → Action  -- 4, 5: task, operation, chosen card
-  dispatch : ℕ → Msg → Action  -- 6: card, the head of its outbox
-  takeBroadcast : ℕ → Action  -- 7: card
-  takeSingle : ℕ → Action  -- 8: task
-  deliver : Msg → ℕ → Action  -- 9: the head of a card's inbox, card
-  report : ℕ → ℕ → Action  -- 10: task, operation
+pub data Action (U : Values) : Type 0 where
+  request : Op → Action U  -- 1, 2
+  perform : ℕ → ℕ → Action U  -- 3: task, operation
+  send : ℕ → ℕ → ℕ → Action U  -- 4, 5: task, operation, chosen card
+  dispatch : ℕ → Msg U → Action U  -- 6: card, the head of its outbox
+  takeBroadcast : ℕ → Action U  -- 7: card
+  takeSingle : ℕ → Action U  -- 8: task
+  deliver : Msg U → ℕ → Action U  -- 9: the head of a card's inbox, card
+  report : ℕ → ℕ → U .Val → Action U  -- 10: task, operation, what it is done with
 
 -- of the operation that a task's status is about
-abbrev pub about : Status → (ℕ → Action) → Option Action
+abbrev pub about : {U : Values} → Status U → (ℕ → Action U) → Option (Action U)
 about R.quiet f = none
 about (R.asking k) f = some (f k)
 about (R.waiting k) f = some (f k)
-about (R.done k) f = some (f k)
+about (R.done k v) f = some (f k)
+
+-- of the operation that it is done with
+abbrev pub telling : {U : Values} → Status U → (ℕ → U .Val → Action U) → Option (Action U)
+telling R.quiet f = none
+telling (R.asking k) f = none
+telling (R.waiting k) f = none
+telling (R.done k v) f = some (f k v)
 
 -- of the head of a queue
-abbrev pub headed : List Msg → (Msg → Action) → Option Action
+abbrev pub headed : {U : Values} → List (Msg U) → (Msg U → Action U) → Option (Action U)
 headed [] f = none
 headed (m ∷ l) f = some (f m)
 
 -- "An operation is reported by its task's next taken 10."
-abbrev pub plan : Ledger → Command → Option Action
-plan b (K.request-read c x) = some (Action.request (readOp c x))
-plan b (K.request-update c x f w) = some (Action.request (updateOp c x f w))
-plan b (K.perform c) = about (b .layer .status c) (Action.perform c)
-plan b (K.send-read c i) = about (b .layer .status c) (λ k. Action.send c k i)
-plan b (K.send-update c) = about (b .layer .status c) (λ k. Action.send c k 0)
-plan b (K.dispatch i) = headed (b .layer .out i) (Action.dispatch i)
-plan b (K.takeBroadcast i) = some (Action.takeBroadcast i)
-plan b (K.takeSingle c) = some (Action.takeSingle c)
-plan b (K.deliver i) = headed (b .channel .inbox i) (λ m. Action.deliver m i)
-plan b (K.report c) = about (b .layer .status c) (Action.report c)
+abbrev pub plan : {U : Values} → Placement → Ledger U → Command → Option (Action U)
+plan P b (K.request-read c x) = some (Action.request (readOp P c x))
+plan P b (K.request-update c x f w) = some (Action.request (updateOp P c x f w))
+plan P b (K.perform c) = about (b .layer .status c) (Action.perform c)
+plan P b (K.send-read c i) = about (b .layer .status c) (λ k. Action.send c k i)
+plan P b (K.send-update c) = about (b .layer .status c) (λ k. Action.send c k 0)
+plan P b (K.dispatch i) = headed (b .layer .out i) (Action.dispatch i)
+plan P b (K.takeBroadcast i) = some (Action.takeBroadcast i)
+plan P b (K.takeSingle c) = some (Action.takeSingle c)
+plan P b (K.deliver i) = headed (b .channel .inbox i) (λ m. Action.deliver m i)
+plan P b (K.report c) = telling (b .layer .status c) (Action.report c)
 
 -- the chosen card, kept at its first value
 abbrev pub first : Option ℕ → ℕ → Option ℕ
@@ -102,59 +113,69 @@ choosing f k i j = cond (eqb j k) (first (f j) i) (f j)
 abbrev pub asks : Op → Stage
 asks o = cond (o .upd) (S.asksUpdate (o .reg)) (S.asksRead (o .reg))
 
-abbrev pub stageOf : List Op → Status → Stage
+abbrev pub stageOf : {U : Values} → List Op → Status U → Stage
 stageOf ops R.quiet = S.quiet
 stageOf ops (R.asking k) = asks (opAt ops k)
 stageOf ops (R.waiting k) = S.waits
-stageOf ops (R.done k) = S.done
+stageOf ops (R.done k v) = S.done
 
 -- delivered on card i, the message is answered by a reply
-abbrev pub answeredOf : World → Msg → ℕ → Bool
+abbrev pub answeredOf : {U : Values} → World U → Msg U → ℕ → Bool
 answeredOf W (ask k) i = answers W k i
-answeredOf W (reply k) i = false
+answeredOf W (reply k v) i = false
 
 -- one more action, if there is one
-abbrev pub noted : Option Action → List Action → List Action
+abbrev pub noted : {U : Values} → Option (Action U) → List (Action U) → List (Action U)
 noted none ds = ds
 noted (some d) ds = d ∷ ds
 
-module _ (P : Placement) where
+-- the copies of each operation's register
+abbrev pub setsOf : List Op → ℕ → ℕ
+setsOf ops k = (opAt ops k) .holders
+
+-- "Each message carries its operation's number, a reply that of the message it answers." What the channel reads off a message:
+module _ {U : Values} (sets : ℕ → ℕ) (W : World U) where
+  abbrev pub wide : Msg U → Bool
+  wide (ask k) = W .upd k && several (sets k)
+  wide (reply k v) = false
+
+  abbrev pub target : Msg U → ℕ
+  target (ask k) = cond (W .upd k) (soleOf (sets k)) (W .chosen k)
+  target (reply k v) = base W k
+
+  abbrev pub mailOf : Mail (Msg U)
+  mailOf = record { task = λ m. W .task (opOf m); to = to W; multi = wide; dest = target }
+
+module _ {U : Values} (P : Placement) where
   -- ---- how it is done
 
   -- the placement and the operations, as the register layer sees them
-  abbrev pub worldOf : List Op → (ℕ → Option ℕ) → World
+  abbrev pub worldOf : List Op → (ℕ → Option ℕ) → World U
   worldOf ops chosen = record {
     home = home P;
-    copy = copy P;
-    primary = primary P;
+    copy = λ x. inSet (holders P x);
     task = λ k. (opAt ops k) .task;
     reg = λ k. (opAt ops k) .reg;
     upd = λ k. (opAt ops k) .upd;
+    fn = λ k. (opAt ops k) .fn;
+    arg = λ k. (opAt ops k) .arg;
     chosen = λ k. Option·getD (chosen k) 0;
+    holds = λ k. inSet ((opAt ops k) .holders);
+    primary = λ k. (opAt ops k) .primary;
   }
 
-  abbrev pub world : Ledger → World
+  abbrev pub world : Ledger U → World U
   world b = worldOf (b .ops) (b .chosen)
 
-  -- "Each message carries its operation's number, a reply that of the message it answers." What the channel reads off a message:
-  module _ (W : World) where
-    abbrev pub wide : Msg → Bool
-    wide (ask k) = W .upd k && several (holders P (W .reg k))
-    wide (reply k) = false
+  abbrev pub ledgerMail : Ledger U → Mail (Msg U)
+  ledgerMail b = mailOf (setsOf (b .ops)) (world b)
 
-    abbrev pub target : Msg → ℕ
-    target (ask k) = cond (W .upd k) (soleOf (holders P (W .reg k))) (W .chosen k)
-    target (reply k) = base W k
+  abbrev pub channelAfter : Ledger U → ChannelAction (Msg U) → ChannelState (Msg U)
+  channelAfter b x = channelStep (ledgerMail b) (b .channel) x
 
-    abbrev pub mailOf : Mail Msg
-    mailOf = record { task = λ m. W .task (opOf m); to = to W; multi = wide; dest = target }
-
-  abbrev pub channelAfter : Ledger → ChannelAction Msg → ChannelState Msg
-  channelAfter b x = channelStep (mailOf (world b)) (b .channel) x
-
-  -- "done as the ten steps say, values left out". "An update is applied on a card when a taken 3 performs it there or a taken 9 there
+  -- "done as the ten steps say". "An update is applied on a card when a taken 3 performs it there or a taken 9 there
   -- delivers its update message": the register layer's `applied`.
-  abbrev pub step : Ledger → Action → Ledger
+  abbrev pub step : Ledger U → Action U → Ledger U
   step b (request o) = record {
     ops = b .ops ++ (o ∷ []);
     chosen = b .chosen;
@@ -167,40 +188,40 @@ module _ (P : Placement) where
   step b (takeBroadcast i) = record { ops = b .ops; chosen = b .chosen; layer = b .layer; channel = channelAfter b (C.takeBroadcast i) }
   step b (takeSingle c) = record { ops = b .ops; chosen = b .chosen; layer = b .layer; channel = channelAfter b (C.takeSingle c) }
   step b (deliver m i) = record { ops = b .ops; chosen = b .chosen; layer = next (world b) (b .layer) (R.deliver m i); channel = channelAfter b (C.deliver i) }
-  step b (report c k) = record { ops = b .ops; chosen = b .chosen; layer = next (world b) (b .layer) (R.report k); channel = b .channel }
+  step b (report c k v) = record { ops = b .ops; chosen = b .chosen; layer = next (world b) (b .layer) (R.report k v); channel = b .channel }
 
   -- the ledger after a list of actions, newest first
-  abbrev pub ledger : List Action → Ledger
+  abbrev pub ledger : List (Action U) → Ledger U
   ledger [] = initialLedger
   ledger (d ∷ ds) = step (ledger ds) d
 
   -- ---- which steps are taken: "Each step is taken or refused by the rules above"
 
   -- the requests taken are the operations
-  abbrev pub sightOf : Ledger → Sight Msg
+  abbrev pub sightOf : Ledger U → Sight (Msg U)
   sightOf b = record { requests = length (b .ops); stage = λ c. stageOf (b .ops) (b .layer .status c); out = b .layer .out; channel = b .channel }
 
-  abbrev pub ledgerRefusal : Ledger → Command → ℕ
-  ledgerRefusal b c = refusal P (mailOf (world b)) (answeredOf (world b)) (sightOf b) c
+  abbrev pub ledgerRefusal : Ledger U → Command → ℕ
+  ledgerRefusal b c = refusal P (ledgerMail b) (answeredOf (world b)) (sightOf b) c
 
   -- of a step as it is given: 0 if it is taken, else the number
-  abbrev pub decodedNumber : Ledger → Decoded → ℕ
+  abbrev pub decodedNumber : Ledger U → Decoded → ℕ
   decodedNumber b (bad n) = n
   decodedNumber b (good c) = ledgerRefusal b c
 
-  abbrev pub numberOf : Ledger → RawStep → ℕ
+  abbrev pub numberOf : Ledger U → RawStep → ℕ
   numberOf b s = decodedNumber b (decode P s)
 
   -- ---- following the list: "a refused one changes nothing"
 
-  abbrev pub notes : List Action → Decoded → List Action
+  abbrev pub notes : List (Action U) → Decoded → List (Action U)
   notes ds (bad n) = ds
-  notes ds (good c) = noted (cond (eqb (ledgerRefusal (ledger ds) c) 0) (plan (ledger ds) c) none) ds
+  notes ds (good c) = noted (cond (eqb (ledgerRefusal (ledger ds) c) 0) (plan P (ledger ds) c) none) ds
 
   -- the actions of the steps taken, newest first
-  abbrev pub paperFrom : List Action → List RawStep → List Action
+  abbrev pub paperFrom : List (Action U) → List RawStep → List (Action U)
   paperFrom ds [] = ds
   paperFrom ds (s ∷ l) = paperFrom (notes ds (decode P s)) l
 
-  abbrev pub paper : List RawStep → List Action
+  abbrev pub paper : List RawStep → List (Action U)
   paper l = paperFrom [] l

@@ -1,3 +1,4 @@
+pub mod Holders
 pub mod Command
 pub mod Steps
 pub mod Refusals
@@ -5,6 +6,7 @@ pub mod Published
 pub mod Allowed
 pub mod PublishedRun
 pub mod Ledger
+pub mod Paper
 pub mod Numbers
 pub mod Limits
 pub mod SerialOrder

@@ -6,8 +6,8 @@ use mathlib.Core.Path.{_≡_}
 use mathlib.Core.Option.{some}
 use lib.ListN.{length}
 use Rattle.lists.specs.Filters.{filter}
-use Rattle.channel.specs.Mail.{Mail}
-use Rattle.channel.specs.State.{Tagged}
+use Rattle.automaton.specs.Mail.{Mail}
+use Rattle.automaton.specs.State.{Tagged}
 use Rattle.claims.specs.Refusals.{Sight}
 
 module _ {M : Type 0} (mail : Mail M) (cards : ℕ) where

@@ -10,9 +10,10 @@ use mathlib.Core.Option.{none, some}
 use lib.ListN.{length, getD}
 use Rattle.lists.specs.Filters.{filter}
 use Rattle.lists.specs.Queues.{push}
+use Rattle.lists.specs.Places.{nth}
 use Rattle.names.specs.CardSet.{memberOf, several, soleOf}
 use Rattle.names.specs.Placement.{Placement, tasks, registers, home, holders, copy}
-use Rattle.channel.specs.State.{Tagged, nth, released}
+use Rattle.automaton.specs.State.{Tagged, released}
 use Rattle.claims.specs.Command.{Command, request-read, request-update, perform, send-read, send-update, dispatch, takeBroadcast, takeSingle, deliver, report}
 use Rattle.claims.specs.Steps.{RawStep}
 use Rattle.claims.specs.Refusals.{alone}

@@ -11,9 +11,9 @@ use Rattle.names.specs.declared.Body.the-variants.{ReadDo, UpdateDo, ReadReply,
 use Rattle.names.specs.CardSet.{memberOf, several, soleOf, justOf}
 use Rattle.names.specs.Update.{updated}
 use Rattle.names.specs.Placement.{Placement, home, holders, primary, copy}
-use Rattle.channel.specs.Mail.{Mail}
-use Rattle.channel.specs.State.{ChannelState, initialChannel, channelStep}
-use Rattle.channel.specs.State as C
+use Rattle.automaton.specs.Mail.{Mail}
+use Rattle.automaton.specs.State.{ChannelState, initialChannel, channelStep}
+use Rattle.automaton.specs.State as C
 use Rattle.claims.specs.Command.{Command, request-read, request-update, perform, send-read, send-update, dispatch, takeBroadcast, takeSingle, deliver, report}
 use Rattle.claims.specs.Refusals.{Stage, Sight, refusal}
 use Rattle.claims.specs.Refusals as S

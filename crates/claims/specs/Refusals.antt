@@ -6,11 +6,12 @@ use mathlib.Core.Bool.{Bool, true, false, cond, _&&_, not}
 use mathlib.Core.List.{List, [], _∷_}
 use lib.Dec.{leb, ltb}
 use lib.ListN.{length}
+use Rattle.lists.specs.Places.{nth}
 use Rattle.names.specs.CardSet.{several}
 use Rattle.names.specs.Placement.{Placement, home, holders, copy}
-use Rattle.channel.specs.Mail.{Mail}
-use Rattle.channel.specs.State.{ChannelState, nth}
-use Rattle.channel.specs.Refusals.{otherwise, dispatchRefusal, takeRefusal, singleRefusal}
+use Rattle.automaton.specs.Mail.{Mail}
+use Rattle.automaton.specs.State.{ChannelState}
+use Rattle.automaton.specs.Refusals.{otherwise, dispatchRefusal, takeRefusal, singleRefusal}
 use Rattle.claims.specs.Command.{Command, request-read, request-update, perform, send-read, send-update, dispatch, takeBroadcast, takeSingle, deliver, report}
 
 -- what a task does

@@ -10,14 +10,15 @@ use mathlib.Core.Option.{some}
 use lib.Dec.{eqb}
 use lib.ListN.{length}
 use Rattle.lists.specs.Histories.{In}
+use Rattle.lists.specs.Places.{nth}
 use Rattle.lists.specs.Queues.{Once}
 use Rattle.lists.specs.Filters.{filter, Precedes}
 use Rattle.names.specs.Update.{updated}
 use Rattle.names.specs.Placement.{Placement, copy}
-use Rattle.channel.specs.State.{nth}
 use Rattle.registers.specs.Explains.{make}
 use Rattle.claims.specs.Steps.{RawStep}
-use Rattle.claims.specs.Ledger.{Op, opAt, Ledger, Action, report, ledger, paper}
+use Rattle.claims.specs.Ledger.{Op, opAt}
+use Rattle.claims.specs.Paper.{Ledger, Action, report, ledger, paper}
 use Rattle.claims.specs.PublishedRun.{Answer}
 
 module _ (P : Placement) (steps : List RawStep) where

@@ -149,7 +149,7 @@ pub extern "C" fn gondzselu_task_value(
 pub extern "C" fn gondzselu_broadcasts(channel: &[u32; 4808]) -> u32
     ensures { λ r. ⌜ r ≡ madeOf (now (channel .entry)) ⌝ }
 {
-    channel::made(channel)
+    channel::made(channel).0
 }
 
 // Broadcasts that a card has taken; 0 for an absent card.
@@ -157,7 +157,7 @@ pub extern "C" fn gondzselu_broadcasts(channel: &[u32; 4808]) -> u32
 pub extern "C" fn gondzselu_broadcasts_taken(channel: &[u32; 4808], card: u32) -> u32
     ensures { λ r. ⌜ r ≡ takenBy (now (channel .entry)) card ⌝ }
 {
-    channel::taken(channel, Card(card))
+    channel::taken(channel, Card(card)).0
 }
 
 // Requests taken.

@@ -1,9 +1,10 @@
 -- The elements of a list that pass a test, in their order; and which of two elements stands first.
 use mathlib.Core.Path.{_≡_, refl, sym, ap, _∙_, subst}
 use mathlib.Core.Logic.{_⊎_, inl, inr}
-use mathlib.Core.Bool.{Bool, true, false}
+use mathlib.Core.Bool.{Bool, true, false, _&&_}
 use mathlib.Core.List.{List, [], _∷_, _++_}
 use Rattle.lists.specs.Histories.{here, there, In, any-nil}
+use Rattle.lists.specs.Queues.{push}
 
 module _ {A : Type 0} where
   -- the elements that pass a test, in their order
@@ -38,6 +39,21 @@ module _ {A : Type 0} where
   pub in-filter : (p : A → Bool) {k : A} {l : List A} → In k l → p k ≡ true → In k (filter p l)
   in-filter p {k} (here {e = a} {E = l} q) t = subst (λ x. In x (keep (p a) a (filter p l))) q (keep-new a (filter p l) (ap p q ∙ t))
   in-filter p (there {e = a} h) t = keep-old (p a) a (in-filter p h t)
+
+  -- of one more at the end
+  pub filter-push : (p : A → Bool) (b : Bool) (a : A) (l : List A) → filter p (push b a l) ≡ push (b && p a) a (filter p l)
+  filter-push p false a l = refl
+  filter-push p true a [] = one (p a)
+    where
+      one : (t : Bool) → keep t a [] ≡ push t a []
+      one true = refl
+      one false = refl
+  filter-push p true a (c ∷ l) = ap (keep (p c) c) (filter-push p true a l) ∙ keep-push (p c) (p a) (filter p l)
+    where
+      keep-push : (t u : Bool) (r : List A) → keep t c (push u a r) ≡ push u a (keep t c r)
+      keep-push true true r = refl
+      keep-push true false r = refl
+      keep-push false u r = refl
 
   -- j stands before k
   abbrev pub Precedes : A → A → List A → Type 0

@@ -4,6 +4,7 @@ pub mod Every
 pub mod Loops
 pub mod Parts
 pub mod Listings
+pub mod Places
 pub mod Histories
 pub mod HistoryMaps
 pub mod Latest

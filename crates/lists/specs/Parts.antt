@@ -4,8 +4,9 @@ use mathlib.Core.Path.{_≡_, refl, sym, ap, ap₂, _∙_}
 use mathlib.Core.List.{List, [], _∷_, _++_}
 use native.Mathlib.Omega.{arith}
 use native.Mathlib.Nat.{add-suc}
+use native.Mathlib.Numerals.{add-one}
 use lib.ListN.{length, getD, set, take, drop, length-take, length-drop, drop-of-length-le, List·getD-eq-default, take-append-drop}
-use lib.Seq.{take-all, drop-drop, getD-take, getD-drop, take-set-le, drop-set-add, sets, sets-eq, take-at, drop-at}
+use lib.Seq.{length-take-le, take-suc, take-all, drop-drop, getD-take, getD-drop, take-set-le, drop-set-add, sets, sets-eq, take-at, drop-at}
 
 -- n elements from place a on, fewer where the list ends before
 abbrev pub part {ℓ} : {A : Type ℓ} → List A → ℕ → ℕ → List A
@@ -53,3 +54,18 @@ sets-at-seam p q vs i e h =
     let z : 0 + length vs ≡ length vs = omega arith in
     sym (rw (take-at p q (length p) refl, drop-at p q (length p) refl, n) at s)
     ∙ ap (λ r. p ++ r) (sets-eq vs q 0 (omega arith) ∙ ap (λ k. vs ++ drop k q) z)
+
+-- stores of one list and then of another, where the first ends
+pub sets-append {ℓ} : {A : Type ℓ} (l : List A) (i : ℕ) (us vs : List A) → sets l i (us ++ vs) ≡ sets (sets l i us) (i + length us) vs
+sets-append l i [] vs = let e : i ≡ i + 0 = omega arith in ap (λ k. sets l k vs) e
+sets-append l i (u ∷ us) vs =
+    let e : suc i + length us ≡ i + suc (length us) = omega arith in
+    sets-append (set l i u) (suc i) us vs ∙ ap (λ k. sets (sets (set l i u) (suc i) us) k vs) e
+
+-- one store more
+pub sets-more {ℓ} : {A : Type ℓ} (l : List A) (i : ℕ) (vs : List A) (k : ℕ) (d : A) → k < length vs → sets l i (take (k + 1) vs) ≡ set (sets l i (take k vs)) (i + k) (getD vs k d)
+sets-more l i vs k d h =
+    ap (λ m. sets l i (take m vs)) (add-one k)
+    ∙ ap (sets l i) (take-suc vs k d h)
+    ∙ sets-append l i (take k vs) (getD vs k d ∷ [])
+    ∙ ap (λ m. set (sets l i (take k vs)) (i + m) (getD vs k d)) (length-take-le k vs (omega arith))

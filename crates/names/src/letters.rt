@@ -81,24 +81,24 @@ pub fn known(body: Body) -> bool
 // The letter of seven words.
 fn letter_of(
     kind: u32,
-    task: u32,
-    register: u32,
+    task: Task,
+    register: Register,
     function: u32,
     value: u32,
-    from: u32,
+    from: Card,
     to: u32,
 ) -> Letter
-    ensures { λ r. ⌜ r ≡ letterOf kind task register function value «from» to ⌝ }
+    ensures { λ r. ⌜ r ≡ letterOf kind (task .0) (register .0) function value («from» .0) to ⌝ }
 {
     let body = body_of(kind, function, value);
     let message = Message {
-        task: Task(task),
-        register: Register(register),
+        task: task,
+        register: register,
         body: body,
     };
     Letter {
         message: message,
-        from: Card(from),
+        from: from,
         to: to,
     }
 }
@@ -108,16 +108,16 @@ pub fn load(memory: &[u32], block: usize) -> Letter
     ensures { λ r. ⌜ r ≡ letterIn (now (memory .entry)) block ⌝ }
 {
     if memory.len() / 8 <= block {
-        return letter_of(0, 0, 0, 0, 0, 0, 0);
+        return letter_of(0, Task(0), Register(0), 0, 0, Card(0), 0);
     }
     let at = block * 8;
     letter_of(
         memory[at],
-        memory[at + 1],
-        memory[at + 2],
+        Task(memory[at + 1]),
+        Register(memory[at + 2]),
         memory[at + 3],
         memory[at + 4],
-        memory[at + 5],
+        Card(memory[at + 5]),
         memory[at + 6],
     )
 }

@@ -99,16 +99,18 @@ pub fn single(set: u32) -> bool
 }
 
 // The only card, of a set that has one.
-pub fn sole(set: u32) -> u32
-    ensures { λ r. ⌜ r ≡ soleOf set ⌝ }
+pub fn sole(set: u32) -> Card
+    ensures { λ r. ⌜ r .0 ≡ soleOf set ⌝ }
 {
-    set / 2 % 2
-        + set / 4 % 2 * 2
-        + set / 8 % 2 * 3
-        + set / 16 % 2 * 4
-        + set / 32 % 2 * 5
-        + set / 64 % 2 * 6
-        + set / 128 % 2 * 7
+    Card(
+        set / 2 % 2
+            + set / 4 % 2 * 2
+            + set / 8 % 2 * 3
+            + set / 16 % 2 * 4
+            + set / 32 % 2 * 5
+            + set / 64 % 2 * 6
+            + set / 128 % 2 * 7,
+    )
 }
 
 // Function 2.

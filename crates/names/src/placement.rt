@@ -49,8 +49,8 @@ pub fn all_present(set: u32, cards: u32) -> bool
 }
 
 // Whether a register has a copy, none on an absent card, and one on its primary.
-fn register_placed(cards: u32, holders: u32, primary: u32) -> bool
-    ensures { λ r. ⌜ r ≡ registerPlaced cards holders primary ⌝ }
+fn register_placed(cards: u32, holders: u32, primary: Card) -> bool
+    ensures { λ r. ⌜ r ≡ registerPlaced cards holders (primary .0) ⌝ }
 {
     if holders < 1 {
         return false;
@@ -58,7 +58,7 @@ fn register_placed(cards: u32, holders: u32, primary: u32) -> bool
     if !all_present(holders, cards) {
         return false;
     }
-    crate::member(holders, Card(primary))
+    crate::member(holders, primary)
 }
 
 // Whether each task's home is present.
@@ -81,7 +81,7 @@ fn registers_placed(cards: u32, copies: &[u8], primaries: &[u8]) -> bool
 {
     let mut x: usize = 0;
     while x < copies.len() {
-        if !register_placed(cards, byte(copies, x), byte(primaries, x)) {
+        if !register_placed(cards, byte(copies, x), Card(byte(primaries, x))) {
             return false;
         }
         x += 1;

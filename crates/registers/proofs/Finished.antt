@@ -9,80 +9,83 @@ use mathlib.Core.Path.{_∙_, _≡_, ap, refl, subst, sym}
 use native.Mathlib.Omega.{arith}
 use Rattle.lists.specs.Histories.{Any, any-nil, back, here, now, stop, there}
 use Rattle.lists.specs.Tests.{and-fst, and-snd, clash}
-use Rattle.registers.proofs.Messages.{delivered-ask, delivered-reply, dispatched}
+use Rattle.registers.proofs.Messages.{delivered-ask, delivered-reply, dispatched, one-value}
 use Rattle.registers.proofs.Ordered.{Ordered, ordered-suf}
 use Rattle.registers.proofs.Requests.{base-of, requested}
 use Rattle.registers.proofs.Statuses.{Busy, Ended, Waits, busy-waits, changes, keeps, set, stays, waits-waits}
 use Rattle.registers.specs.Events.{Delivers, Performs, Posts, Requests}
-use Rattle.registers.specs.Layer.{Event, Msg, Precondition, Valid, World, ask, asking, base, deliver, dispatch, done, idle, perform, quiet, reply, report, request, run, send, site, waiting}
+use Rattle.registers.specs.Layer.{Values, Event, Msg, Precondition, Valid, World, ask, asking, base, deliver, dispatch, done, idle, perform, quiet, reply, report, request, run, send, site, waiting}
 
-module _ (W : World) where
+module _ {U : Values} (W : World U) where
   -- the operation is finished: performed, its update delivered at home, or answered
-  pub data Fin (E : List Event) (k : ℕ) : Type 0 where
+  pub data Fin (E : List (Event U)) (k : ℕ) : Type 0 where
     local : Any (Performs k) E → Fin E k
     own : W .upd k ≡ true → Any (Delivers (ask k) (base W k)) E → Fin E k
-    answered : Any (Delivers (reply k) (base W k)) E → Fin E k
+    answered : (w : U .Val) → Any (Delivers (reply k w) (base W k)) E → Fin E k
 
-  pub fin-there : {e : Event} {E : List Event} {k : ℕ} → Fin E k → Fin (e ∷ E) k
+  pub fin-there : {e : Event U} {E : List (Event U)} {k : ℕ} → Fin E k → Fin (e ∷ E) k
   fin-there (local h) = local (there h)
   fin-there (own u h) = own u (there h)
-  fin-there (answered h) = answered (there h)
+  fin-there (answered w h) = answered w (there h)
 
-  module _ (rank : Msg → ℕ) where
+  module _ (rank : Msg U → ℕ) where
     -- ---- a requested operation is its task's present one or is finished; a sent one waits or is finished
 
-    pub record Live (E : List Event) : Type 0 where
+    pub record Live (E : List (Event U)) : Type 0 where
       pub ended : (c k : ℕ) → Ended ((run W E) .status c) k → Fin E k
       pub busy : (k : ℕ) → Any (Requests k) E → Busy ((run W E) .status (W .task k)) k ⊎ Fin E k
       pub waits : (k : ℕ) → Any (Posts k) E → Waits ((run W E) .status (W .task k)) k ⊎ Fin E k
 
     -- a message that ends its operation finds it unfinished
-    open-ask : (E : List Event) → Valid W E → (k i : ℕ) → Ordered W rank (deliver (ask k) i ∷ E) → W .upd k ≡ true → i ≡ base W k → ¬ Fin E k
+    open-ask : (E : List (Event U)) → Valid W E → (k i : ℕ) → Ordered W rank (deliver (ask k) i ∷ E) → W .upd k ≡ true → i ≡ base W k → ¬ Fin E k
     open-ask E v k i o u e (local h) = base-of W E v .alone k (dispatched W rank E v (ordered-suf W rank (back stop) o) (ask k) (o .sent (ask k) i E (now (refl, refl)) .0)) h
     open-ask E v k i o u e (own x h) = o .once (ask k) i E (now (refl, refl)) (rw e h)
-    open-ask E v k i o u e (answered h) =
-        let d = delivered-reply W rank E v (ordered-suf W rank (back stop) o) k (base W k) h in
+    open-ask E v k i o u e (answered w h) =
+        let d = delivered-reply W rank E v (ordered-suf W rank (back stop) o) k w (base W k) h in
         let t = o .sent (ask k) i E (now (refl, refl)) .1 in
         clash (rw (e, u) at t) (d .0 .1 u)
 
-    open-reply : (E : List Event) → Valid W E → (k i : ℕ) → Ordered W rank (deliver (reply k) i ∷ E) → ¬ Fin E k
-    open-reply E v k i o (local h) =
-        let d = dispatched W rank E v (ordered-suf W rank (back stop) o) (reply k) (o .sent (reply k) i E (now (refl, refl)) .0) in
+    open-reply : (E : List (Event U)) → Valid W E → (k : ℕ) (w : U .Val) (i : ℕ) → Ordered W rank (deliver (reply k w) i ∷ E) → ¬ Fin E k
+    open-reply E v k w i o (local h) =
+        let d = dispatched W rank E v (ordered-suf W rank (back stop) o) (reply k w) (o .sent (reply k w) i E (now (refl, refl)) .0) in
         base-of W E v .alone k (delivered-ask W rank E v (ordered-suf W rank (back stop) o) k (site W k) (d .0) .0) h
-    open-reply E v k i o (own x h) =
-        let d = dispatched W rank E v (ordered-suf W rank (back stop) o) (reply k) (o .sent (reply k) i E (now (refl, refl)) .0) in
+    open-reply E v k w i o (own x h) =
+        let d = dispatched W rank E v (ordered-suf W rank (back stop) o) (reply k w) (o .sent (reply k w) i E (now (refl, refl)) .0) in
         let t = delivered-ask W rank E v (ordered-suf W rank (back stop) o) k (base W k) h .1 in
         clash (rw x at t) (d .1 x)
-    open-reply E v k i o (answered h) =
-        let e = eqb-true i (base W k) (o .sent (reply k) i E (now (refl, refl)) .1) in
-        o .once (reply k) i E (now (refl, refl)) (rw e h)
+    open-reply E v k w i o (answered u h) =
+        let b = ordered-suf W rank (back stop) o in
+        let e = eqb-true i (base W k) (o .sent (reply k w) i E (now (refl, refl)) .1) in
+        let d = dispatched W rank E v b (reply k w) (o .sent (reply k w) i E (now (refl, refl)) .0) in
+        let q = one-value W rank E b k u w (delivered-reply W rank E v b k u (base W k) h .0) d in
+        o .once (reply k w) i E (now (refl, refl)) (rw e (subst (λ x. Any (Delivers (reply k x) (base W k)) E) q h))
 
     resolve : {A B : Type 0} → A ⊎ B → ¬ B → A
     resolve (inl a) n = a
     resolve (inr b) n = absurd (n b)
 
-    wait-ask : (E : List Event) → Valid W E → Live E → (k i : ℕ) → Ordered W rank (deliver (ask k) i ∷ E) → W .upd k ≡ true → i ≡ base W k → Waits ((run W E) .status (W .task k)) k
+    wait-ask : (E : List (Event U)) → Valid W E → Live E → (k i : ℕ) → Ordered W rank (deliver (ask k) i ∷ E) → W .upd k ≡ true → i ≡ base W k → Waits ((run W E) .status (W .task k)) k
     wait-ask E v l k i o u e =
         resolve (l .waits k (dispatched W rank E v (ordered-suf W rank (back stop) o) (ask k) (o .sent (ask k) i E (now (refl, refl)) .0))) (open-ask E v k i o u e)
 
-    wait-reply : (E : List Event) → Valid W E → Live E → (k i : ℕ) → Ordered W rank (deliver (reply k) i ∷ E) → Waits ((run W E) .status (W .task k)) k
-    wait-reply E v l k i o =
-        let d = dispatched W rank E v (ordered-suf W rank (back stop) o) (reply k) (o .sent (reply k) i E (now (refl, refl)) .0) in
-        resolve (l .waits k (delivered-ask W rank E v (ordered-suf W rank (back stop) o) k (site W k) (d .0) .0)) (open-reply E v k i o)
+    wait-reply : (E : List (Event U)) → Valid W E → Live E → (k : ℕ) (w : U .Val) (i : ℕ) → Ordered W rank (deliver (reply k w) i ∷ E) → Waits ((run W E) .status (W .task k)) k
+    wait-reply E v l k w i o =
+        let d = dispatched W rank E v (ordered-suf W rank (back stop) o) (reply k w) (o .sent (reply k w) i E (now (refl, refl)) .0) in
+        resolve (l .waits k (delivered-ask W rank E v (ordered-suf W rank (back stop) o) k (site W k) (d .0) .0)) (open-reply E v k w i o)
 
-    fin-ask : {E : List Event} {j k i : ℕ} → W .upd j ≡ true → i ≡ base W j → j ≡ k → Fin (deliver (ask j) i ∷ E) k
+    fin-ask : {E : List (Event U)} {j k i : ℕ} → W .upd j ≡ true → i ≡ base W j → j ≡ k → Fin (deliver (ask j) i ∷ E) k
     fin-ask {j = j} {i = i} u e p = own (rw p at u) (here {e = deliver (ask j) i} (ap ask p, e ∙ ap (base W) p))
 
-    fin-reply : {E : List Event} {j k i : ℕ} → i ≡ base W j → j ≡ k → Fin (deliver (reply j) i ∷ E) k
-    fin-reply {j = j} {i = i} e p = answered (here {e = deliver (reply j) i} (ap reply p, e ∙ ap (base W) p))
+    fin-reply : {E : List (Event U)} {j k i : ℕ} {w : U .Val} → i ≡ base W j → j ≡ k → Fin (deliver (reply j w) i ∷ E) k
+    fin-reply {j = j} {i = i} {w} e p = answered w (here {e = deliver (reply j w) i} (ap (λ a. reply a w) p, e ∙ ap (base W) p))
 
-    home-reply : {E : List Event} {j i : ℕ} → Ordered W rank (deliver (reply j) i ∷ E) → i ≡ base W j
-    home-reply {E} {j} {i} o = eqb-true _ _ (o .sent (reply j) i E (now (refl, refl)) .1)
+    home-reply : {E : List (Event U)} {j i : ℕ} {w : U .Val} → Ordered W rank (deliver (reply j w) i ∷ E) → i ≡ base W j
+    home-reply {E} {j} {i} {w} o = eqb-true _ _ (o .sent (reply j w) i E (now (refl, refl)) .1)
 
-    ended-step : (e : Event) (E : List Event) → Precondition W (run W E) e → Ordered W rank (e ∷ E) → Live E → (c k : ℕ) → Ended ((run W (e ∷ E)) .status c) k → Fin (e ∷ E) k
+    ended-step : (e : Event U) (E : List (Event U)) → Precondition W (run W E) e → Ordered W rank (e ∷ E) → Live E → (c k : ℕ) → Ended ((run W (e ∷ E)) .status c) k → Fin (e ∷ E) k
     ended-step (request j) E cn o l c k h =
         fin-there (l .ended c k (stays (λ s. Ended s k) true (W .task j) (asking j) ((run W E) .status) c (λ y. y) h .1))
-    ended-step (perform j) E cn o l c k h = go (changes (λ s. Ended s k) true (W .task j) (done j) ((run W E) .status) c h)
+    ended-step (perform j) E cn o l c k h = go (changes (λ s. Ended s k) true (W .task j) (done j _) ((run W E) .status) c h)
       where
         go : ((true ≡ true) × (W .task j ≡ c) × (j ≡ k)) ⊎ Ended ((run W E) .status c) k → Fin (perform j ∷ E) k
         go (inl x) = local (here (x .2))
@@ -90,62 +93,62 @@ module _ (W : World) where
     ended-step (send j) E cn o l c k h =
         fin-there (l .ended c k (stays (λ s. Ended s k) true (W .task j) (waiting j) ((run W E) .status) c (λ y. y) h .1))
     ended-step (dispatch m) E cn o l c k h = fin-there (l .ended c k h)
-    ended-step (deliver (ask j) i) E cn o l c k h = go (changes (λ s. Ended s k) (W .upd j && eqb i (base W j)) (W .task j) (done j) ((run W E) .status) c h)
+    ended-step (deliver (ask j) i) E cn o l c k h = go (changes (λ s. Ended s k) (W .upd j && eqb i (base W j)) (W .task j) (done j _) ((run W E) .status) c h)
       where
         go : (((W .upd j && eqb i (base W j)) ≡ true) × (W .task j ≡ c) × (j ≡ k)) ⊎ Ended ((run W E) .status c) k → Fin (deliver (ask j) i ∷ E) k
         go (inl x) = fin-ask (and-fst (W .upd j) _ (x .0)) (eqb-true _ _ (and-snd (W .upd j) _ (x .0))) (x .2)
         go (inr x) = fin-there (l .ended c k x)
-    ended-step (deliver (reply j) i) E cn o l c k h = go (changes (λ s. Ended s k) true (W .task j) (done j) ((run W E) .status) c h)
+    ended-step (deliver (reply j w) i) E cn o l c k h = go (changes (λ s. Ended s k) true (W .task j) (done j _) ((run W E) .status) c h)
       where
-        go : ((true ≡ true) × (W .task j ≡ c) × (j ≡ k)) ⊎ Ended ((run W E) .status c) k → Fin (deliver (reply j) i ∷ E) k
+        go : ((true ≡ true) × (W .task j ≡ c) × (j ≡ k)) ⊎ Ended ((run W E) .status c) k → Fin (deliver (reply j w) i ∷ E) k
         go (inl x) = fin-reply (home-reply o) (x .2)
         go (inr x) = fin-there (l .ended c k x)
-    ended-step (report j) E cn o l c k h =
+    ended-step (report j w) E cn o l c k h =
         fin-there (l .ended c k (stays (λ s. Ended s k) true (W .task j) quiet ((run W E) .status) c (λ y. y) h .1))
     ended-step idle E cn o l c k h = fin-there (l .ended c k h)
 
-    busy-step : (e : Event) (E : List Event) → Precondition W (run W E) e → Valid W E → Ordered W rank (e ∷ E) → Live E → (k : ℕ) → Busy ((run W E) .status (W .task k)) k
+    busy-step : (e : Event U) (E : List (Event U)) → Precondition W (run W E) e → Valid W E → Ordered W rank (e ∷ E) → Live E → (k : ℕ) → Busy ((run W E) .status (W .task k)) k
         → Busy ((run W (e ∷ E)) .status (W .task k)) k ⊎ Fin (e ∷ E) k
     busy-step (request j) E cn v o l k h = keeps (λ s. Busy s k) true (W .task j) (asking j) ((run W E) .status) (W .task k) h
         (λ b t. absurd (subst (λ s. Busy s k) (cn .1) (rw (← t) at h)))
-    busy-step (perform j) E cn v o l k h = keeps (λ s. Busy s k) true (W .task j) (done j) ((run W E) .status) (W .task k) h
+    busy-step (perform j) E cn v o l k h = keeps (λ s. Busy s k) true (W .task j) (done j _) ((run W E) .status) (W .task k) h
         (λ b t. inl (subst (λ s. Busy s k) (cn .0) (rw (← t) at h)))
     busy-step (send j) E cn v o l k h = keeps (λ s. Busy s k) true (W .task j) (waiting j) ((run W E) .status) (W .task k) h
         (λ b t. inl (subst (λ s. Busy s k) (cn .0) (rw (← t) at h)))
     busy-step (dispatch m) E cn v o l k h = inl h
-    busy-step (deliver (ask j) i) E cn v o l k h = keeps (λ s. Busy s k) (W .upd j && eqb i (base W j)) (W .task j) (done j) ((run W E) .status) (W .task k) h
+    busy-step (deliver (ask j) i) E cn v o l k h = keeps (λ s. Busy s k) (W .upd j && eqb i (base W j)) (W .task j) (done j _) ((run W E) .status) (W .task k) h
         (λ b t. inl (busy-waits ((run W E) .status (W .task j)) (rw (← t) at h) (wait-ask E v l j i o (and-fst (W .upd j) _ b) (eqb-true _ _ (and-snd (W .upd j) _ b)))))
-    busy-step (deliver (reply j) i) E cn v o l k h = keeps (λ s. Busy s k) true (W .task j) (done j) ((run W E) .status) (W .task k) h
-        (λ b t. inl (busy-waits ((run W E) .status (W .task j)) (rw (← t) at h) (wait-reply E v l j i o)))
-    busy-step (report j) E cn v o l k h = keeps (λ s. Busy s k) true (W .task j) quiet ((run W E) .status) (W .task k) h
+    busy-step (deliver (reply j w) i) E cn v o l k h = keeps (λ s. Busy s k) true (W .task j) (done j _) ((run W E) .status) (W .task k) h
+        (λ b t. inl (busy-waits ((run W E) .status (W .task j)) (rw (← t) at h) (wait-reply E v l j w i o)))
+    busy-step (report j w) E cn v o l k h = keeps (λ s. Busy s k) true (W .task j) quiet ((run W E) .status) (W .task k) h
         (λ b t. inr (fin-there (l .ended (W .task j) k (subst (λ s. Ended s k) (sym cn) (subst (λ s. Busy s k) cn (rw (← t) at h))))))
     busy-step idle E cn v o l k h = inl h
 
-    waits-step : (e : Event) (E : List Event) → Precondition W (run W E) e → Valid W E → Ordered W rank (e ∷ E) → Live E → (k : ℕ) → Waits ((run W E) .status (W .task k)) k
+    waits-step : (e : Event U) (E : List (Event U)) → Precondition W (run W E) e → Valid W E → Ordered W rank (e ∷ E) → Live E → (k : ℕ) → Waits ((run W E) .status (W .task k)) k
         → Waits ((run W (e ∷ E)) .status (W .task k)) k ⊎ Fin (e ∷ E) k
     waits-step (request j) E cn v o l k h = keeps (λ s. Waits s k) true (W .task j) (asking j) ((run W E) .status) (W .task k) h
         (λ b t. absurd (subst (λ s. Waits s k) (cn .1) (rw (← t) at h)))
-    waits-step (perform j) E cn v o l k h = keeps (λ s. Waits s k) true (W .task j) (done j) ((run W E) .status) (W .task k) h
+    waits-step (perform j) E cn v o l k h = keeps (λ s. Waits s k) true (W .task j) (done j _) ((run W E) .status) (W .task k) h
         (λ b t. absurd (subst (λ s. Waits s k) (cn .0) (rw (← t) at h)))
     waits-step (send j) E cn v o l k h = keeps (λ s. Waits s k) true (W .task j) (waiting j) ((run W E) .status) (W .task k) h
         (λ b t. absurd (subst (λ s. Waits s k) (cn .0) (rw (← t) at h)))
     waits-step (dispatch m) E cn v o l k h = inl h
-    waits-step (deliver (ask j) i) E cn v o l k h = keeps (λ s. Waits s k) (W .upd j && eqb i (base W j)) (W .task j) (done j) ((run W E) .status) (W .task k) h
+    waits-step (deliver (ask j) i) E cn v o l k h = keeps (λ s. Waits s k) (W .upd j && eqb i (base W j)) (W .task j) (done j _) ((run W E) .status) (W .task k) h
         (λ b t. let u = and-fst (W .upd j) _ b in let e = eqb-true _ _ (and-snd (W .upd j) _ b) in
         inr (fin-ask u e (waits-waits ((run W E) .status (W .task j)) (rw (← t) at h) (wait-ask E v l j i o u e))))
-    waits-step (deliver (reply j) i) E cn v o l k h = keeps (λ s. Waits s k) true (W .task j) (done j) ((run W E) .status) (W .task k) h
-        (λ b t. inr (fin-reply (home-reply o) (waits-waits ((run W E) .status (W .task j)) (rw (← t) at h) (wait-reply E v l j i o))))
-    waits-step (report j) E cn v o l k h = keeps (λ s. Waits s k) true (W .task j) quiet ((run W E) .status) (W .task k) h
+    waits-step (deliver (reply j w) i) E cn v o l k h = keeps (λ s. Waits s k) true (W .task j) (done j _) ((run W E) .status) (W .task k) h
+        (λ b t. inr (fin-reply (home-reply o) (waits-waits ((run W E) .status (W .task j)) (rw (← t) at h) (wait-reply E v l j w i o))))
+    waits-step (report j w) E cn v o l k h = keeps (λ s. Waits s k) true (W .task j) quiet ((run W E) .status) (W .task k) h
         (λ b t. absurd (subst (λ s. Waits s k) cn (rw (← t) at h)))
     waits-step idle E cn v o l k h = inl h
 
-    busy-new : (e : Event) (E : List Event) (k : ℕ) → Requests k e → Busy ((run W (e ∷ E)) .status (W .task k)) k
+    busy-new : (e : Event U) (E : List (Event U)) (k : ℕ) → Requests k e → Busy ((run W (e ∷ E)) .status (W .task k)) k
     busy-new (request j) E k p = set (λ s. Busy s k) (W .task j) (asking j) ((run W E) .status) (W .task k) (ap (W .task) p) p
 
-    waits-new : (e : Event) (E : List Event) (k : ℕ) → Posts k e → Waits ((run W (e ∷ E)) .status (W .task k)) k
+    waits-new : (e : Event U) (E : List (Event U)) (k : ℕ) → Posts k e → Waits ((run W (e ∷ E)) .status (W .task k)) k
     waits-new (send j) E k p = set (λ s. Waits s k) (W .task j) (waiting j) ((run W E) .status) (W .task k) (ap (W .task) p) p
 
-    pub live-of : (E : List Event) → Valid W E → Ordered W rank E → Live E
+    pub live-of : (E : List (Event U)) → Valid W E → Ordered W rank E → Live E
     live-of [] v o = record { ended = λ c k h. absurd h; busy = λ k h. absurd (any-nil h); waits = λ k h. absurd (any-nil h) }
     live-of (e ∷ E) v o = step (live-of E (v .1) (ordered-suf W rank (back stop) o))
       where
@@ -170,7 +173,7 @@ module _ (W : World) where
 
     -- ---- a task's operations follow one another: when one is requested, the earlier ones are finished
 
-    pub earlier : (E : List Event) → Valid W E → Ordered W rank E → (j k : ℕ) → Any (Requests k) E → j < k → W .task j ≡ W .task k → Fin E j
+    pub earlier : (E : List (Event U)) → Valid W E → Ordered W rank E → (j k : ℕ) → Any (Requests k) E → j < k → W .task j ≡ W .task k → Fin E j
     earlier (request i ∷ E) v o j k (here p) h t =
         fin-there (go (live-of E (v .1) (ordered-suf W rank (back stop) o) .busy j (requested W E (v .1) j (let q = v .0 .0 in omega arith))))
       where

@@ -5,9 +5,12 @@ pub mod Requests
 pub mod Messages
 pub mod Finished
 pub mod Applied
+pub mod Copies
 pub mod Points
 pub mod KeyOrder
+pub mod Laws
 pub mod Serial
 pub mod Values
+pub mod SequentialConsistency
 pub mod Fresh
 pub mod Mistakes

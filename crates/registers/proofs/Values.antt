@@ -1,25 +1,25 @@
--- The order explains the values too: what a copy holds, and what a read gets.
+-- The order explains the values too: what a copy has, and what a report gives.
 use Prim.Native.Nat.{ℕ}
-use borrow.Author.Tests.{eqb-true}
 use lib.Dec.{eqb}
 use mathlib.Core.Bool.{Bool, _&&_, cond, false, true}
 use mathlib.Core.List.{List, [], _++_, _∷_}
+use mathlib.Core.Logic.{_⊎_, inl, inr}
 use mathlib.Core.Path.{_∙_, _≡_, ap, refl, subst, sym}
-use Rattle.channel.specs.Promise.{Promise}
-use Rattle.lists.specs.Filters.{filter, keep}
-use Rattle.lists.specs.Histories.{Any, At, any-at, at-any, back, before, now, stop}
+use Rattle.multicast.specs.Promise.{Promise}
+use Rattle.lists.specs.Filters.{filter}
+use Rattle.lists.specs.Histories.{Any, At, any-at, at-map, at-suf, back, before, now, stop, suf-at}
 use Rattle.lists.specs.Queues.{push}
-use Rattle.lists.specs.Tests.{eqb-of}
-use Rattle.registers.proofs.Applied.{Effect, delivering, effect, performing}
-use Rattle.registers.proofs.Messages.{delivered-ask, dispatched}
+use Rattle.registers.proofs.Applied.{delivers-crucial, moment}
+use Rattle.registers.proofs.Laws.{Laws, rank-laws}
+use Rattle.registers.proofs.Messages.{Brings, dispatched}
 use Rattle.registers.proofs.Ordered.{Ordered, ordered, ordered-suf}
-use Rattle.registers.proofs.Requests.{Asked, base-of, performed-step}
-use Rattle.registers.proofs.Serial.{serial}
-use Rattle.registers.proofs.Statuses.{ask-inj, ask-reply}
-use Rattle.registers.specs.Events.{Crucial, Delivers, Dispatches, Reports}
-use Rattle.registers.specs.Explains.{Explains, ExplainsValues, got, make, updatesOf, vals}
-use Rattle.registers.specs.Key.{order}
-use Rattle.registers.specs.Layer.{Event, Msg, Valid, World, ask, base, deliver, dispatch, idle, perform, reply, report, request, run, send, to, view}
+use Rattle.registers.proofs.Serial.{explained, finds}
+use Rattle.registers.proofs.Statuses.{EndedWith, changes, stays}
+use Rattle.registers.specs.Events.{Crucial, Gives}
+use Rattle.registers.specs.Explains.{ExplainsValues, make, updatesOf}
+use Rattle.registers.specs.Key.{bound, incl, keyAt, order}
+use Rattle.registers.specs.Layer.{Values, Event, Msg, Precondition, Valid, World, ask, asking, base, deliver, dispatch, done, fun, idle, perform, quiet, reply, report, request, run, send, site, view, waiting}
+use Rattle.lists.specs.Sorting.{sort}
 
 module _ {Val : Type 0} (fun : ℕ → Val → Val) where
   make-push : (b : Bool) (v : Val) (k : ℕ) (l : List ℕ) → make fun v (push b k l) ≡ cond b (fun k (make fun v l)) (make fun v l)
@@ -27,112 +27,95 @@ module _ {Val : Type 0} (fun : ℕ → Val → Val) where
   make-push true v k (j ∷ l) = make-push true (fun j v) k l
   make-push false v k l = refl
 
-module _ (W : World) {Val : Type 0} (nought : ℕ → Val) (fun : ℕ → Val → Val) where
-  filter-push : (p : ℕ → Bool) (b : Bool) (k : ℕ) (l : List ℕ) → filter p (push b k l) ≡ push (b && p k) k (filter p l)
-  filter-push p false k l = refl
-  filter-push p true k [] = go (p k)
-    where
-      go : (t : Bool) → keep t k [] ≡ push t k []
-      go true = refl
-      go false = refl
-  filter-push p true k (j ∷ l) = ap (keep (p j) j) (filter-push p true k l) ∙ go (p j) (p k)
-    where
-      go : (t s : Bool) → keep t j (push s k (filter p l)) ≡ push s k (keep t j (filter p l))
-      go true true = refl
-      go true false = refl
-      go false true = refl
-      go false false = refl
+module _ {U : Values} (W : World U) where
+  -- one more update
+  one-more : (b : Bool) (x k : ℕ) (l : List ℕ) (w : U .Val) → w ≡ make (fun W) (U .nought x) l → cond b (fun W k w) w ≡ make (fun W) (U .nought x) (push b k l)
+  one-more b x k l w e = ap (λ u. cond b (fun W k u) u) e ∙ sym (make-push (fun W) b (U .nought x) k l)
 
-  -- a copy holds what the updates applied on its card make of the register's start value
-  twice : (a b c : Bool) → (a && b && (a && c)) ≡ (a && b && c)
-  twice true b c = refl
-  twice false b c = refl
-
-  one-more : (b : Bool) (x i k : ℕ) (l : List ℕ) (w : Val) → w ≡ make fun (nought x) (filter (updatesOf W x) l)
-      → cond (W .upd k && b && eqb (W .reg k) x) (fun k w) w ≡ make fun (nought x) (filter (updatesOf W x) (push (W .upd k && b) k l))
-  one-more b x i k l w e =
-      ap (λ u. cond (W .upd k && b && eqb (W .reg k) x) (fun k u) u) e
-      ∙ ap (λ t. cond t (fun k (make fun (nought x) (filter (updatesOf W x) l))) (make fun (nought x) (filter (updatesOf W x) l))) (sym (twice (W .upd k) b (eqb (W .reg k) x)))
-      ∙ sym (make-push fun (W .upd k && b && updatesOf W x k) (nought x) k (filter (updatesOf W x) l))
-      ∙ ap (make fun (nought x)) (sym (filter-push (updatesOf W x) (W .upd k && b) k l))
-
-  pub copy-value : (E : List Event) (i x : ℕ) → vals W nought fun E i x ≡ make fun (nought x) (filter (updatesOf W x) ((run W E) .applied i))
+  -- a copy has what the updates that it shows make of the register's start value
+  pub copy-value : (E : List (Event U)) (i x : ℕ) → (run W E) .val i x ≡ make (fun W) (U .nought x) ((run W E) .shown i x)
   copy-value [] i x = refl
   copy-value (request k ∷ E) i x = copy-value E i x
-  copy-value (perform k ∷ E) i x = one-more (eqb i (base W k)) x i k ((run W E) .applied i) (vals W nought fun E i x) (copy-value E i x)
+  copy-value (perform k ∷ E) i x = one-more (W .upd k && eqb i (base W k) && eqb (W .reg k) x) x k ((run W E) .shown i x) ((run W E) .val i x) (copy-value E i x)
   copy-value (send k ∷ E) i x = copy-value E i x
   copy-value (dispatch m ∷ E) i x = copy-value E i x
-  copy-value (deliver (ask k) j ∷ E) i x = one-more (eqb i j) x i k ((run W E) .applied i) (vals W nought fun E i x) (copy-value E i x)
-  copy-value (deliver (reply k) j ∷ E) i x = copy-value E i x
-  copy-value (report k ∷ E) i x = copy-value E i x
+  copy-value (deliver (ask k) j ∷ E) i x = one-more (W .upd k && eqb i j && eqb (W .reg k) x) x k ((run W E) .shown i x) ((run W E) .val i x) (copy-value E i x)
+  copy-value (deliver (reply k w) j ∷ E) i x = copy-value E i x
+  copy-value (report k w ∷ E) i x = copy-value E i x
   copy-value (idle ∷ E) i x = copy-value E i x
 
-  -- ---- a read looks once
+  -- ---- the value that a task is done with was in the copy where its operation took effect
 
-  got-on : (e : Event) (E : List Event) (k : ℕ) → ((j : ℕ) → ¬ Crucial W k j e) → got W nought fun (e ∷ E) k ≡ got W nought fun E k
-  got-on (request j) E k n = refl
-  got-on (perform j) E k n = go (eqb j k) refl
-    where
-      go : (t : Bool) → eqb j k ≡ t → cond t (vals W nought fun E (base W j) (W .reg j)) (got W nought fun E k) ≡ got W nought fun E k
-      go true e = absurd (n (base W j) (eqb-true _ _ e, refl))
-      go false e = refl
-  got-on (send j) E k n = refl
-  got-on (dispatch m) E k n = refl
-  got-on (deliver (ask j) i) E k n = go (eqb j k) refl
-    where
-      go : (t : Bool) → eqb j k ≡ t → cond t (vals W nought fun E i (W .reg j)) (got W nought fun E k) ≡ got W nought fun E k
-      go true e = absurd (n i (ap ask (eqb-true _ _ e), refl))
-      go false e = refl
-  got-on (deliver (reply j) i) E k n = refl
-  got-on (report j) E k n = refl
-  got-on idle E k n = refl
+  pub record Found (E : List (Event U)) (k : ℕ) (v : U .Val) : Type 0 where
+    pub card : ℕ
+    pub past : List (Event U)
+    pub took : At (Crucial W k card) past E
+    pub was : v ≡ (run W past) .val card (W .reg k)
 
-  got-now : (e : Event) (E : List Event) (k i : ℕ) → Crucial W k i e → got W nought fun (e ∷ E) k ≡ vals W nought fun E i (W .reg k)
-  got-now (perform j) E k i p = rw (eqb-of (p .0)) (ap (λ a. vals W nought fun E a (W .reg j)) (p .1) ∙ ap (λ a. vals W nought fun E i (W .reg a)) (p .0))
-  got-now (deliver (ask j) c) E k i p = rw (eqb-of (ask-inj (p .0))) (ap (λ a. vals W nought fun E a (W .reg j)) (p .1) ∙ ap (λ a. vals W nought fun E i (W .reg a)) (ask-inj (p .0)))
-  got-now (deliver (reply j) c) E k i p = absurd (ask-reply (sym (p .0)))
+  found-on : {e : Event U} {E : List (Event U)} {k : ℕ} {v : U .Val} → Found E k v → Found (e ∷ E) k v
+  found-on f = record { card = f .card; past = f .past; took = before (f .took); was = f .was }
 
-  module _ (rank : Msg → ℕ) where
-    read-once : (e : Event) (E : List Event) → Valid W (e ∷ E) → Ordered W rank (e ∷ E) → (k i j : ℕ) → W .upd k ≡ false → Any (Crucial W k i) E → ¬ Crucial W k j e
-    read-once (perform a) E v o k i j u h x = go (effect W (any-at h .1))
+  module _ (rank : Msg U → ℕ) where
+    pub done-found : (E : List (Event U)) → Valid W E → Ordered W rank E → (c k : ℕ) (v : U .Val) → EndedWith ((run W E) .status c) k v → Found E k v
+    done-found [] y o c k v h = absurd h
+    done-found (request j ∷ E) y o c k v h =
+        found-on (done-found E (y .1) (ordered-suf W rank (back stop) o) c k v (stays (λ s. EndedWith s k v) true (W .task j) (asking j) ((run W E) .status) c (λ z. z) h .1))
+    done-found (perform j ∷ E) y o c k v h =
+        go (changes (λ s. EndedWith s k v) true (W .task j) (done j ((run W E) .val (base W j) (W .reg j))) ((run W E) .status) c h) (λ z. done-found E (y .1) (ordered-suf W rank (back stop) o) c k v z)
       where
-        asked : Asked W E (W .task k) k
-        asked = performed-step W (perform a) E (v .0) (base-of W E (v .1)) k (x .0)
-
-        go : Effect W k i (any-at h .0) E → ⊥
-        go (performing p e) = asked .unperformed (at-any p)
-        go (delivering p) = asked .unsent (delivered-ask W rank E (v .1) (ordered-suf W rank (back stop) o) k i (at-any p) .0)
-    read-once (deliver m c) E v o k i j u h x = go (effect W (any-at h .1))
+        go : ((true ≡ true) × (W .task j ≡ c) × ((j ≡ k) × ((run W E) .val (base W j) (W .reg j) ≡ v))) ⊎ EndedWith ((run W E) .status c) k v → (EndedWith ((run W E) .status c) k v → Found E k v) → Found (perform j ∷ E) k v
+        go (inl x) r = record { card = base W j; past = E; took = now {e = perform j} (x .2 .0, refl); was = sym (x .2 .1) ∙ ap (λ a. (run W E) .val (base W j) (W .reg a)) (x .2 .0) }
+        go (inr x) r = found-on (r x)
+    done-found (send j ∷ E) y o c k v h =
+        found-on (done-found E (y .1) (ordered-suf W rank (back stop) o) c k v (stays (λ s. EndedWith s k v) true (W .task j) (waiting j) ((run W E) .status) c (λ z. z) h .1))
+    done-found (dispatch m ∷ E) y o c k v h = found-on (done-found E (y .1) (ordered-suf W rank (back stop) o) c k v h)
+    done-found (deliver (ask j) i ∷ E) y o c k v h =
+        go (changes (λ s. EndedWith s k v) (W .upd j && eqb i (base W j)) (W .task j) (done j ((run W E) .val i (W .reg j))) ((run W E) .status) c h) (λ z. done-found E (y .1) (ordered-suf W rank (back stop) o) c k v z)
       where
-        here-now : At (Delivers (ask k) j) E (deliver m c ∷ E)
-        here-now = now x
+        go : (((W .upd j && eqb i (base W j)) ≡ true) × (W .task j ≡ c) × ((j ≡ k) × ((run W E) .val i (W .reg j) ≡ v))) ⊎ EndedWith ((run W E) .status c) k v → (EndedWith ((run W E) .status c) k v → Found E k v) → Found (deliver (ask j) i ∷ E) k v
+        go (inl x) r = record { card = i; past = E; took = now {e = deliver (ask j) i} (ap ask (x .2 .0), refl); was = sym (x .2 .1) ∙ ap (λ a. (run W E) .val i (W .reg a)) (x .2 .0) }
+        go (inr x) r = found-on (r x)
+    done-found (deliver (reply j w) i ∷ E) y o c k v h =
+        go (changes (λ s. EndedWith s k v) true (W .task j) (done j w) ((run W E) .status) c h) (λ z. done-found E (y .1) (ordered-suf W rank (back stop) o) c k v z)
+      where
+        b : Brings W E j w
+        b = dispatched W rank E (y .1) (ordered-suf W rank (back stop) o) (reply j w) (o .sent (reply j w) i E (now (refl, refl)) .0) .2
 
-        sent-now : Any (Dispatches (ask k)) E × (to W (ask k) j ≡ true)
-        sent-now = o .sent (ask k) j E here-now
+        brought : Found E j w
+        brought = record { card = site W j; past = b .0; took = at-map (delivers-crucial W j (site W j)) (b .1); was = b .2 }
 
-        go : Effect W k i (any-at h .0) E → ⊥
-        go (performing p e) = base-of W E (v .1) .alone k (dispatched W rank E (v .1) (ordered-suf W rank (back stop) o) (ask k) (sent-now .0)) (at-any p)
-        go (delivering p) =
-            let d = delivered-ask W rank E (v .1) (ordered-suf W rank (back stop) o) k i (at-any p) .1 in
-            let a : i ≡ W .chosen k = eqb-true _ _ (rw u at d) in
-            let b : j ≡ W .chosen k = eqb-true _ _ (rw u at (sent-now .1)) in
-            o .once (ask k) j E here-now (subst (λ c. Any (Delivers (ask k) c) E) (a ∙ sym b) (at-any p))
+        go : ((true ≡ true) × (W .task j ≡ c) × ((j ≡ k) × (w ≡ v))) ⊎ EndedWith ((run W E) .status c) k v → (EndedWith ((run W E) .status c) k v → Found E k v) → Found (deliver (reply j w) i ∷ E) k v
+        go (inl x) r = found-on (subst (λ a. Found E k a) (x .2 .1) (subst (λ a. Found E a w) (x .2 .0) brought))
+        go (inr x) r = found-on (r x)
+    done-found (report j w ∷ E) y o c k v h =
+        found-on (done-found E (y .1) (ordered-suf W rank (back stop) o) c k v (stays (λ s. EndedWith s k v) true (W .task j) quiet ((run W E) .status) c (λ z. z) h .1))
+    done-found (idle ∷ E) y o c k v h = found-on (done-found E (y .1) (ordered-suf W rank (back stop) o) c k v h)
 
-    pub got-at : {B E : List Event} {k i : ℕ} → Valid W E → Ordered W rank E → W .upd k ≡ false → At (Crucial W k i) B E → got W nought fun E k ≡ vals W nought fun B i (W .reg k)
-    got-at {k = k} {i} v o u (now {e = e} {E = E} p) = got-now e E k i p
-    got-at {k = k} {i} v o u (before {e = e} {E = E} q) =
-        got-on e E k (λ j. read-once e E v o k i j u (at-any q)) ∙ got-at (v .1) (ordered-suf W rank (back stop) o) u q
+    told : (e : Event U) (B : List (Event U)) (k : ℕ) (v : U .Val) → Gives k v e → Precondition W (run W B) e → EndedWith ((run W B) .status (W .task k)) k v
+    told (report j w) B k v p c = subst (λ a. EndedWith ((run W B) .status (W .task a)) k v) (p .0) (subst (λ s. EndedWith s k v) (sym c) p)
 
-  -- and values too
-  pub serial-values : (rank : Msg → ℕ) (E : List Event) → Valid W E → Promise (view W) rank E → ExplainsValues W nought fun E (order W rank E)
-  serial-values rank E v p = record { explains = s; reads = f; copies = λ x i c. copy-value E i x }
-    where
-      s : Explains W E (order W rank E)
-      s = serial W rank E v p
+    -- and so was the value that a report gives
+    pub gives-found : (E : List (Event U)) → Valid W E → Ordered W rank E → (k : ℕ) (v : U .Val) → Any (Gives k v) E → Found E k v
+    gives-found E y o k v h =
+        let a = any-at h in
+        let s = at-suf (a .1) in
+        let m = moment W y (a .1) in
+        let f = done-found (a .0) (m .3) (ordered-suf W rank s o) (W .task k) k v (told (m .0) (a .0) k v (m .1) (m .2)) in
+        record { card = f .card; past = f .past; took = suf-at s (f .took); was = f .was }
 
-      f : (k : ℕ) → Any (Reports k) E → W .upd k ≡ false → (pre post : List ℕ) → order W rank E ≡ pre ++ k ∷ post → got W nought fun E k ≡ make fun (nought (W .reg k)) (filter (updatesOf W (W .reg k)) pre)
-      f k h u pre post e =
-          let l = s .looked k h u in
-          got-at rank v (ordered W rank E p) u (l .2)
-          ∙ copy-value (l .1) (l .0) (W .reg k)
-          ∙ ap (make fun (nought (W .reg k))) (sym (s .reads k (l .0) (l .1) u (l .2) pre post e))
+    -- ---- the values, for an order by any key that keeps the laws
+
+    module _ (E : List (Event U)) (y : Valid W E) (o : Ordered W rank E) (key : ℕ → ℕ) (L : Laws W E key) where
+      pub explained-values : ExplainsValues W E (sort key (incl W E))
+      explained-values = record { explains = explained W rank E y o key L; reports = f; copies = λ x i c. copy-value E i x }
+        where
+          f : (k : ℕ) (v : U .Val) → Any (Gives k v) E → (pre post : List ℕ) → sort key (incl W E) ≡ pre ++ k ∷ post → v ≡ make (fun W) (U .nought (W .reg k)) (filter (updatesOf W (W .reg k)) pre)
+          f k v h pre post e =
+              let t = gives-found E y o k v h in
+              t .was
+              ∙ copy-value (t .past) (t .card) (W .reg k)
+              ∙ ap (make (fun W) (U .nought (W .reg k))) (sym (finds W rank E y o key L k (t .card) (t .past) (t .took) pre post e))
+
+  -- Every run of the layer whose channel keeps its promise is explained by one serial order, the one of specs/Key, its values too.
+  pub serial-values : (rank : Msg U → ℕ) (E : List (Event U)) → Valid W E → Promise (view W) rank E → ExplainsValues W E (order W rank E)
+  serial-values rank E y p = explained-values rank E y (ordered W rank E p) (keyAt W rank (bound E) E) (rank-laws W rank E y (ordered W rank E p))

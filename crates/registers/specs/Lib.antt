@@ -1,4 +1,7 @@
+-- 000 Figure 5, with values
 pub mod Layer
 pub mod Events
+-- what it means that a serial order explains a run, and which order does
 pub mod Explains
 pub mod Key
+pub mod SequentialConsistency

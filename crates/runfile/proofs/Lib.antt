@@ -1,6 +1,7 @@
 -- Run files and answer files
 pub mod Joined
 pub mod AnswerLaws
+pub mod WriteLaws
 pub mod RunFileLaws
 pub mod LongFile
 -- Whole runs

@@ -42,6 +42,18 @@ putAnswers n answer k out = turns (λ j. putAnswer n j (answer j)) k out
 
 -- ---- a whole answer file from two tables
 
+-- the results, from byte 2 on
+unfoldable pub resultsPut : List ℕ → List ℕ → List ℕ
+resultsPut results out = sets out 2 results
+
+-- the array of values
+abbrev pub valueBytes : List ℕ → List ℕ
+valueBytes values = joined (map fourBytes values)
+
+-- the part of the output that starts with the array of values, with that array in it
+unfoldable pub valuesFilled : List ℕ → List ℕ → List ℕ
+valuesFilled values part = sets part 0 (valueBytes values)
+
 abbrev pub answerAt : List ℕ → List ℕ → ℕ → Answer
 answerAt results values k = record { result = getD results k 0; value = getD values k 0 }
 

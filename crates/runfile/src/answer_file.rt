@@ -2,7 +2,7 @@
 ghost use mathlib.Core.Path.{_≡_};
 ghost use Prim.Native.Nat.{_+_, _*_, _≤_, _<_};
 ghost use lib.ListN.{length};
-ghost use Rattle.runfile.specs.AnswerFile.{wordStored, headed, putAnswer, putAnswers, answerAt, writeRefusal, written};
+ghost use Rattle.runfile.specs.AnswerFile.{wordStored, headed, putAnswer, resultsPut, valuesFilled, writeRefusal, written};
 use names::Answer;
 
 // The value of step k into the array of values, which starts with the part.
@@ -38,31 +38,35 @@ pub(crate) fn put_answer(out: &mut [u8], n: usize, k: usize, answer: Answer)
     fill_value(&mut out[start..], k, value);
 }
 
-// The answers of all steps, from two tables of one length.
-fn put_tables(out: &mut [u8], results: &[u8], values: &[u32])
-    requires { ⌜ (length (now results) ≤ 4096) × (length (now values) ≡ length (now results)) × (2 + 5 * length (now results) ≤ length (now out)) ⌝ }
-    ensures { λ _. ⌜ now (out .exit) ≡ putAnswers (length (now (results .entry))) (answerAt (now (results .entry)) (now (values .entry))) (length (now (results .entry))) (headed (length (now (results .entry))) (now (out .entry))) ⌝ }
+// The results of all steps, from byte 2 on.
+fn put_results(out: &mut [u8], results: &[u8])
+    requires { ⌜ (length (now results) ≤ 4096) × (2 + length (now results) ≤ length (now out)) ⌝ }
+    ensures { λ _. ⌜ now (out .exit) ≡ resultsPut (now (results .entry)) (now (out .entry)) ⌝ }
 {
     let n = results.len();
-    put_count(out, n);
     let mut k: usize = 0;
     while k < n {
-        let result = results[k];
+        out[2 + k] = results[k];
+        k += 1;
+    }
+}
+
+// The values of all steps into the array of values, which starts with the part.
+fn fill_values(part: &mut [u8], values: &[u32])
+    requires { ⌜ (length (now values) ≤ 4096) × (4 * length (now values) ≤ length (now part)) ⌝ }
+    ensures { λ _. ⌜ now (part .exit) ≡ valuesFilled (now (values .entry)) (now (part .entry)) ⌝ }
+{
+    let n = values.len();
+    let mut k: usize = 0;
+    while k < n {
         let value = values[k];
-        put_answer(
-            out,
-            n,
-            k,
-            Answer {
-                result: result,
-                value: value,
-            },
-        );
+        fill_value(part, k, value);
         k += 1;
     }
 }
 
 // A whole answer file: 3 for tables that no file has, 5 for an output that is too short, else 0. A refusal leaves the output untouched.
+// The part from 2 + N on is lent once, for the whole array of values.
 pub fn write(out: &mut [u8], results: &[u8], values: &[u32]) -> u8
     ensures refusal { λ r. ⌜ r ≡ writeRefusal (now (results .entry)) (now (values .entry)) (now (out .entry)) ⌝ }
     ensures output { λ _. ⌜ now (out .exit) ≡ written (now (results .entry)) (now (values .entry)) (now (out .entry)) ⌝ }
@@ -76,6 +80,9 @@ pub fn write(out: &mut [u8], results: &[u8], values: &[u32]) -> u8
     if out.len() < 2 + 5 * results.len() {
         return 5;
     }
-    put_tables(out, results, values);
+    put_count(out, results.len());
+    put_results(out, results);
+    let start = 2 + results.len();
+    fill_values(&mut out[start..], values);
     0
 }

@@ -16,7 +16,7 @@ use Rattle.names.specs.CardSet.{justOf}
 use Rattle.names.specs.Letters.{known}
 use Rattle.names.specs.Update.{updated}
 use Rattle.names.specs.Placement.{Placement, home, primary, copy}
-use Rattle.channel.specs.State.{ChannelState, deliver, channelStep}
+use Rattle.automaton.specs.State.{ChannelState, deliver, channelStep}
 use Rattle.channel.specs.Layout.{cardsOf, tasksOf, registersOf}
 use Rattle.channel.specs.declared.Received.the-variants.{Got, Empty}
 use Rattle.channel.specs.Inbox.{receiveAnswer, receiveMemory}

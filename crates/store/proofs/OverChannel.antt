@@ -6,12 +6,12 @@ use mathlib.Core.Bool.{true}
 use mathlib.Core.List.{List}
 use lib.ListN.{length}
 use Rattle.names.specs.declared.Letter.{Letter}
-use Rattle.channel.specs.State.{ChannelState, ChannelAction, channelStep}
-use Rattle.channel.specs.Refusals.{channelRefusal}
+use Rattle.automaton.specs.State.{ChannelState, ChannelAction, channelStep}
+use Rattle.automaton.specs.Refusals.{channelRefusal}
 use Rattle.channel.specs.Layout.{cardsOf}
 use Rattle.channel.specs.Sized.{wellSized}
 use Rattle.channel.specs.Shows.{letterMail}
-use Rattle.channel.specs.Renaming.{action-map, Alike}
+use Rattle.automaton.specs.Renaming.{action-map, Alike}
 use Rattle.channel.specs.MemoryCalls.{SameSizes}
 use Rattle.channel.proofs.OfferedCalls.{Passes, channelRefusal-map, channelStep-map}
 use Rattle.claims.specs.Published.{mail}

@@ -12,7 +12,7 @@ use Rattle.lists.specs.Tests.{and-fst}
 use Rattle.names.specs.declared.Register.{Register}
 use Rattle.names.specs.Update.{updated}
 use Rattle.names.specs.Placement.{Placement, home}
-use Rattle.channel.specs.Refusals.{otherwise}
+use Rattle.automaton.specs.Refusals.{otherwise}
 use Rattle.channel.specs.Layout.{cardsOf, tasksOf, registersOf}
 use Rattle.channel.proofs.Offered.{cards-most, tasks-most, registers-most}
 use Rattle.claims.specs.Command.{perform}

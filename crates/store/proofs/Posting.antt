@@ -10,7 +10,7 @@ use Rattle.names.specs.declared.Body.{Body}
 use Rattle.names.specs.CardSet.{justOf}
 use Rattle.names.specs.Letters.{known}
 use Rattle.names.specs.Placement.{Placement}
-use Rattle.channel.specs.Refusals.{otherwise}
+use Rattle.automaton.specs.Refusals.{otherwise}
 use Rattle.channel.specs.Layout.{cardsOf, tasksOf, registersOf}
 use Rattle.channel.proofs.Offered.{cards-most, tasks-most, registers-most, fits-of}
 use Rattle.claims.specs.Refusals.{outboxRoom}

@@ -11,7 +11,7 @@ use lib.Dec.{eqb, ltb}
 use lib.ListN.{set, length-set}
 use Rattle.names.specs.declared.Register.{Register}
 use Rattle.names.specs.Placement.{Placement}
-use Rattle.channel.specs.Refusals.{otherwise}
+use Rattle.automaton.specs.Refusals.{otherwise}
 use Rattle.channel.specs.Layout.{cardsOf, tasksOf, registersOf}
 use Rattle.channel.proofs.Offered.{cards-most, tasks-most, registers-most}
 use Rattle.claims.specs.Command.{request-read, request-update, report}

@@ -13,7 +13,7 @@ use Rattle.lists.specs.Tests.{and-false}
 use Rattle.lists.specs.Queues.{push, pop}
 use Rattle.names.specs.declared.Letter.{Letter}
 use Rattle.names.specs.Placement.{Placement}
-use Rattle.channel.specs.State.{ChannelState}
+use Rattle.automaton.specs.State.{ChannelState}
 use Rattle.claims.specs.Published.{Published, setStatus, setCopy, post}
 use Rattle.claims.specs.Published as Pub
 use Rattle.store.specs.declared.Doing.{Doing}

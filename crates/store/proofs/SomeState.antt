@@ -5,7 +5,7 @@ use mathlib.Core.List.{List}
 use Rattle.lists.specs.Listings.{listing, listing-length, listing-at}
 use Rattle.names.specs.Placement.{Placement, placement}
 use Rattle.channel.specs.Layout.{cardsOf, tasksOf, registersOf}
-use Rattle.channel.specs.Renaming.{channel-map}
+use Rattle.automaton.specs.Renaming.{channel-map}
 use Rattle.channel.proofs.Offered.{shown}
 use Rattle.claims.specs.Published.{Published}
 use Rattle.store.specs.Layout.{requestsOf, homeOf, holdersOf, primaryOf, copyOf}

@@ -11,7 +11,7 @@ use lib.Seq.{getD-set-same, getD-set-other}
 use Rattle.lists.specs.Loops.{turns, turns-zero, turns-suc}
 use Rattle.lists.specs.Listings.{listing-zero}
 use Rattle.names.specs.Placement.{Placement, tasks, registers, home, holders, primary, placementRefusal}
-use Rattle.channel.specs.State.{initialChannel}
+use Rattle.automaton.specs.State.{initialChannel}
 use Rattle.channel.specs.Layout.{cardsOf, tasksOf, registersOf}
 use Rattle.channel.specs.Begin.{beginMemory}
 use Rattle.channel.proofs.Offered.{begin-follows, begun-sized, begun-length}

@@ -9,9 +9,10 @@ use mathlib.Core.Option.{none, some}
 use lib.ListN.{length}
 use Rattle.lists.specs.Filters.{filter}
 use Rattle.lists.specs.Queues.{push}
+use Rattle.lists.specs.Places.{nth}
 use Rattle.names.specs.CardSet.{memberOf, several, soleOf}
 use Rattle.names.specs.Placement.{Placement, home, copy}
-use Rattle.channel.specs.State.{Tagged, nth, released, ripe}
+use Rattle.automaton.specs.State.{Tagged, released, ripe}
 use Rattle.claims.specs.Command.{request-read, send-read, dispatch, takeBroadcast, takeSingle}
 use Rattle.claims.specs.Published.{Published, Letter, quiet, askingRead, mail, commandRefusal}
 

@@ -8,10 +8,10 @@ use Rattle.lists.specs.Listings.{listing}
 use Rattle.names.specs.declared.Letter.{Letter}
 use Rattle.names.specs.Letters.{letterAt}
 use Rattle.names.specs.Placement.{Placement, tasks, registers, home, holders, primary}
-use Rattle.channel.specs.State.{ChannelState}
+use Rattle.automaton.specs.State.{ChannelState}
 use Rattle.channel.specs.Layout.{cardsOf, tasksOf, registersOf}
 use Rattle.channel.specs.Shows.{Shows}
-use Rattle.channel.specs.Renaming.{channel-map}
+use Rattle.automaton.specs.Renaming.{channel-map}
 use Rattle.claims.specs.Published.{Published, quiet, askingRead, askingUpdate, waiting, doneRead, doneUpdate}
 use Rattle.claims.specs.Published as Pub
 use Rattle.store.specs.declared.Doing.{Doing}

@@ -42,16 +42,16 @@ pub fn kind_of(doing: Doing) -> u32
     }
 }
 
-fn register_of(doing: Doing) -> u32
-    ensures { λ r. ⌜ r ≡ doingRegister doing ⌝ }
+fn register_of(doing: Doing) -> Register
+    ensures { λ r. ⌜ r .0 ≡ doingRegister doing ⌝ }
 {
     match doing {
-        Doing::Quiet => 0,
-        Doing::AskingRead(x) => x.0,
-        Doing::AskingUpdate(x, _, _) => x.0,
-        Doing::Waiting => 0,
-        Doing::DoneRead(_) => 0,
-        Doing::DoneUpdate => 0,
+        Doing::Quiet => Register(0),
+        Doing::AskingRead(x) => x,
+        Doing::AskingUpdate(x, _, _) => x,
+        Doing::Waiting => Register(0),
+        Doing::DoneRead(_) => Register(0),
+        Doing::DoneUpdate => Register(0),
     }
 }
 
@@ -100,7 +100,7 @@ pub(crate) fn store(registers: &mut [u32; 1544], task: Task, doing: Doing)
 {
     let at = TASK + task_place(task) * 8;
     registers[at + 1] = kind_of(doing);
-    registers[at + 2] = register_of(doing);
+    registers[at + 2] = register_of(doing).0;
     registers[at + 3] = function_of(doing);
     registers[at + 4] = value_of(doing);
 }

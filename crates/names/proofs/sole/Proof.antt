@@ -1,48 +1,45 @@
 use Rattle.lists.specs.Loops.{total, turns}
 use Rattle.names.specs.CardSet.{soleOf}
-use Rattle.lists.specs.Tests.{cases}
 use native.Mathlib.Omega.{arith}
 use borrow.Author.Needs.{needs}
 use Rattle.names.proofs.sole.Statement.{statement}
 use Rattle.names.proofs.sole.Tie as tie
-use Rattle.names.proofs.sole.Reads as reads
-use Rattle.names.proofs.sole.Lts as lts
 
-mul-result : tie.Need-mul-result
-mul-result c = search needs
+mul-t6 : tie.Need-mul-t6
+mul-t6 c = search needs
 
-add-result : tie.Need-add-result
-add-result c = search needs
+add-t7 : tie.Need-add-t7
+add-t7 c = search needs
 
-mul-result-2 : tie.Need-mul-result-2
-mul-result-2 c = search needs
+mul-t10 : tie.Need-mul-t10
+mul-t10 c = search needs
 
-add-result-2 : tie.Need-add-result-2
-add-result-2 c = search needs
+add-t11 : tie.Need-add-t11
+add-t11 c = search needs
 
-mul-result-3 : tie.Need-mul-result-3
-mul-result-3 c = search needs
+mul-t14 : tie.Need-mul-t14
+mul-t14 c = search needs
 
-add-result-3 : tie.Need-add-result-3
-add-result-3 c = search needs
+add-t15 : tie.Need-add-t15
+add-t15 c = search needs
 
-mul-result-4 : tie.Need-mul-result-4
-mul-result-4 c = search needs
+mul-t18 : tie.Need-mul-t18
+mul-t18 c = search needs
 
-add-result-4 : tie.Need-add-result-4
-add-result-4 c = search needs
+add-t19 : tie.Need-add-t19
+add-t19 c = search needs
 
-mul-result-5 : tie.Need-mul-result-5
-mul-result-5 c = search needs
+mul-t22 : tie.Need-mul-t22
+mul-t22 c = search needs
 
-add-result-5 : tie.Need-add-result-5
-add-result-5 c = search needs
+add-t23 : tie.Need-add-t23
+add-t23 c = search needs
 
-mul-result-6 : tie.Need-mul-result-6
-mul-result-6 c = search needs
+mul-t26 : tie.Need-mul-t26
+mul-t26 c = search needs
 
-add-result-6 : tie.Need-add-result-6
-add-result-6 c = search needs
+add-t27 : tie.Need-add-t27
+add-t27 c = search needs
 
 returns : tie.Need-returns
 unfolding soleOf total turns
@@ -52,16 +49,16 @@ pub sole-spec : {M : Type 1} → statement M
 sole-spec =
     tie.close
     (tie.spec
-    mul-result
-    add-result
-    mul-result-2
-    add-result-2
-    mul-result-3
-    add-result-3
-    mul-result-4
-    add-result-4
-    mul-result-5
-    add-result-5
-    mul-result-6
-    add-result-6
+    mul-t6
+    add-t7
+    mul-t10
+    add-t11
+    mul-t14
+    add-t15
+    mul-t18
+    add-t19
+    mul-t22
+    add-t23
+    mul-t26
+    add-t27
     returns)

@@ -8,25 +8,13 @@ use Rattle.channel.proofs.broadcast.broadcasts.Statement.{statement}
 use Rattle.channel.proofs.broadcast.broadcasts.Tie as tie
 
 abbrev Inv-loop : tie.InvT-loop
-Inv-loop memory i most count₀ k₀ count k = (k ≤ most) × (count ≤ k) × (count ≡ total (broadcastAt memory i) k)
+Inv-loop memory card most count₀ k₀ count k = (k ≤ most) × (count ≤ k) × (count ≡ total (broadcastAt memory (card .0)) k)
 
 abbrev μ-loop : tie.MeasureT-loop
-μ-loop memory i most count₀ k₀ count k = most - k
+μ-loop memory card most count₀ k₀ count k = most - k
 
-mul-capped : tie.Need-mul-capped Inv-loop μ-loop
-mul-capped c = search needs
-
-add-capped : tie.Need-add-capped Inv-loop μ-loop
-add-capped c = search needs
-
-add-capped-2 : tie.Need-add-capped-2 Inv-loop μ-loop
-add-capped-2 c = search needs
-
-mul-capped-2 : tie.Need-mul-capped-2 Inv-loop μ-loop
-mul-capped-2 c = search needs
-
-element-copy-out-capped : tie.Need-element-copy-out-capped Inv-loop μ-loop
-element-copy-out-capped c = search needs
+count-of-requires : tie.Need-count-of-requires Inv-loop μ-loop
+count-of-requires c κs = search needs
 
 capped-requires : tie.Need-capped-requires Inv-loop μ-loop
 capped-requires c κs = search needs
@@ -58,7 +46,7 @@ loop-again c = (omega arith, omega arith, ap₂ _+_ (c .before .before .loop .in
 returns : tie.Need-returns Inv-loop μ-loop
 unfolding broadcastsOf
 returns c = let e : c .before .loop .k ≡ c .before .before .capped .result = omega arith in
-    (rw (← (c .before .before .capped .ensures), ← e) (c .before .loop .inv .2), omega arith)
+    (rw (← (c .before .before .before .count-of .ensures), ← (c .before .before .capped .ensures), ← e) (c .before .loop .inv .2), omega arith)
 
 pub broadcasts-spec : {M : Type 1} → statement M
 broadcasts-spec =
@@ -66,11 +54,7 @@ broadcasts-spec =
     (tie.spec
     Inv-loop
     μ-loop
-    mul-capped
-    add-capped
-    add-capped-2
-    mul-capped-2
-    element-copy-out-capped
+    count-of-requires
     capped-requires
     cast-most
     loop-holds

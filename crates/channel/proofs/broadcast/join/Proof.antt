@@ -1,33 +1,37 @@
+-- The answers name no place of `set_taken`, so that an edit which moves it is refused by what it breaks.
+use Prim.Native.Nat.{ℕ}
+use mathlib.Core.Bool.{Bool, true}
+use mathlib.Core.List.{List}
+use mathlib.Core.Path.{_≡_}
+use lib.ListN.{set}
 use borrow.Author.Needs.{needs}
-use Rattle.channel.specs.TakeBroadcast.{joined}
+use Rattle.names.specs.declared.Letter.{Letter}
+use Rattle.channel.specs.Layout.{takenWord}
+use Rattle.channel.specs.TakeBroadcast.{arrived, joined}
 use Rattle.channel.proofs.broadcast.join.Statement.{statement}
 use Rattle.channel.proofs.broadcast.join.Tie as tie
 
-mul-memory : tie.Need-mul-memory
-mul-memory c = search needs
+-- a destination's words
+there-joined : (ws us vs : List ℕ) (i n : ℕ) (l : Letter) (there : Bool) → vs ≡ arrived us i n l → us ≡ set ws (takenWord i) n → there ≡ true → vs ≡ joined ws i n l there
+unfolding joined
+there-joined ws us vs i n l there a s t = simp (a, s, t)
 
-add-memory : tie.Need-add-memory
-add-memory c = search needs
-
-mul-memory-2 : tie.Need-mul-memory-2
-mul-memory-2 c = search needs
-
-element-write-memory : tie.Need-element-write-memory
-element-write-memory c = search needs
+set-taken-requires : tie.Need-set-taken-requires
+set-taken-requires c κs = search needs
 
 arrive-requires : tie.Need-arrive-requires
 arrive-requires c κs = search needs
 
 returns : tie.Need-returns
-unfolding joined
-returns c = simp (c .arrive .ensures, c .before .before .if1 .taken)
+returns c = search (needs, there-joined)
 
 release-requires : tie.Need-release-requires
 release-requires c κs = search needs
 
 returns-2 : tie.Need-returns-2
 unfolding joined
-returns-2 c = simp (c .release .ensures, c .before .before .if1 .left)
+returns-2 c = simp (c .before .before .if1 .left) (cc)
 
 pub join-spec : {M : Type 1} → statement M
-join-spec = tie.close (tie.spec mul-memory add-memory mul-memory-2 element-write-memory arrive-requires returns release-requires returns-2)
+join-spec =
+    tie.close (tie.spec set-taken-requires arrive-requires returns release-requires returns-2)

@@ -8,25 +8,13 @@ use Rattle.channel.proofs.broadcast.releasable.Statement.{statement}
 use Rattle.channel.proofs.broadcast.releasable.Tie as tie
 
 abbrev Inv-loop : tie.InvT-loop
-Inv-loop memory i n held count₀ k₀ count k = (k ≤ held) × (count ≤ k) × (count ≡ total (readyAt memory i n) k)
+Inv-loop memory card n held count₀ k₀ count k = (k ≤ held) × (count ≤ k) × (count ≡ total (readyAt memory (card .0) (n .0)) k)
 
 abbrev μ-loop : tie.MeasureT-loop
-μ-loop memory i n held count₀ k₀ count k = held - k
+μ-loop memory card n held count₀ k₀ count k = held - k
 
-mul-capped : tie.Need-mul-capped Inv-loop μ-loop
-mul-capped c = search needs
-
-add-capped : tie.Need-add-capped Inv-loop μ-loop
-add-capped c = search needs
-
-add-capped-2 : tie.Need-add-capped-2 Inv-loop μ-loop
-add-capped-2 c = search needs
-
-mul-capped-2 : tie.Need-mul-capped-2 Inv-loop μ-loop
-mul-capped-2 c = search needs
-
-element-copy-out-capped : tie.Need-element-copy-out-capped Inv-loop μ-loop
-element-copy-out-capped c = search needs
+held-of-requires : tie.Need-held-of-requires Inv-loop μ-loop
+held-of-requires c κs = search needs
 
 capped-requires : tie.Need-capped-requires Inv-loop μ-loop
 capped-requires c κs = search needs
@@ -55,7 +43,7 @@ loop-again c = (omega arith, omega arith, ap₂ _+_ (c .before .before .loop .in
 returns : tie.Need-returns Inv-loop μ-loop
 unfolding releasableOf
 returns c = let e : c .before .loop .k ≡ c .before .before .capped .result = omega arith in
-    (rw (← (c .before .before .capped .ensures), ← e) (c .before .loop .inv .2), omega arith)
+    (rw (← (c .before .before .before .held-of .ensures), ← (c .before .before .capped .ensures), ← e) (c .before .loop .inv .2), omega arith)
 
 pub releasable-spec : {M : Type 1} → statement M
 releasable-spec =
@@ -63,11 +51,7 @@ releasable-spec =
     (tie.spec
     Inv-loop
     μ-loop
-    mul-capped
-    add-capped
-    add-capped-2
-    mul-capped-2
-    element-copy-out-capped
+    held-of-requires
     capped-requires
     cast-held
     loop-holds

@@ -17,25 +17,13 @@ unfolding sweeps
 sweeps-more i n k ws = turns-more (swept i n) k _
 
 abbrev Inv-loop : tie.InvT-loop
-Inv-loop memory₀ i n held kept₀ k₀ memory kept k = (k ≤ held) × (kept ≤ k) × (memory ≡ sweeps i n k memory₀ .words) × (kept ≡ sweeps i n k memory₀ .kept)
+Inv-loop memory₀ card n held kept₀ k₀ memory kept k = (k ≤ held) × (kept ≤ k) × (memory ≡ sweeps (card .0) (n .0) k memory₀ .words) × (kept ≡ sweeps (card .0) (n .0) k memory₀ .kept)
 
 abbrev μ-loop : tie.MeasureT-loop
-μ-loop memory₀ i n held kept₀ k₀ memory kept k = held - k
+μ-loop memory₀ card n held kept₀ k₀ memory kept k = held - k
 
-mul-capped : tie.Need-mul-capped Inv-loop μ-loop
-mul-capped c = search needs
-
-add-capped : tie.Need-add-capped Inv-loop μ-loop
-add-capped c = search needs
-
-add-capped-2 : tie.Need-add-capped-2 Inv-loop μ-loop
-add-capped-2 c = search needs
-
-mul-capped-2 : tie.Need-mul-capped-2 Inv-loop μ-loop
-mul-capped-2 c = search needs
-
-element-copy-out-capped : tie.Need-element-copy-out-capped Inv-loop μ-loop
-element-copy-out-capped c = search needs
+held-of-requires : tie.Need-held-of-requires Inv-loop μ-loop
+held-of-requires c κs = search needs
 
 capped-requires : tie.Need-capped-requires Inv-loop μ-loop
 capped-requires c κs = search needs
@@ -60,29 +48,17 @@ unfolding swept
 loop-again c = let v = c .before .before .before .loop .inv in
     (omega arith, omega arith, rw (sweeps-more, ← (v .2), ← (v .3)) (c .sweep .ensures .0), rw (sweeps-more, ← (v .2), ← (v .3)) (c .sweep .ensures .1 .0))
 
-cast-memory : tie.Need-cast-memory Inv-loop μ-loop
-cast-memory c = search needs
+cast-set-held : tie.Need-cast-set-held Inv-loop μ-loop
+cast-set-held c = search needs
 
-mul-memory : tie.Need-mul-memory Inv-loop μ-loop
-mul-memory c = search needs
-
-add-memory : tie.Need-add-memory Inv-loop μ-loop
-add-memory c = search needs
-
-add-memory-2 : tie.Need-add-memory-2 Inv-loop μ-loop
-add-memory-2 c = search needs
-
-mul-memory-2 : tie.Need-mul-memory-2 Inv-loop μ-loop
-mul-memory-2 c = search needs
-
-element-write-memory : tie.Need-element-write-memory Inv-loop μ-loop
-element-write-memory c = search needs
+set-held-requires : tie.Need-set-held-requires Inv-loop μ-loop
+set-held-requires c κs = search needs
 
 returns : tie.Need-returns Inv-loop μ-loop
 unfolding releasedWords
-returns c = let v = c .before .loop .inv in
-    let e : c .before .loop .k ≡ c .before .before .capped .result = omega arith in
-    rw (← (c .before .before .capped .ensures), ← e, ← (v .2), ← (v .3))
+returns c = let v = c .before .before .before .loop .inv in
+    let e : c .before .before .before .loop .k ≡ c .before .before .before .before .capped .result = omega arith in
+    rw (← (c .before .before .before .before .before .held-of .ensures), ← (c .before .before .before .before .capped .ensures), ← e, ← (v .2), ← (v .3)) (c .set-held .ensures)
 
 pub release-spec : {M : Type 1} → statement M
 release-spec =
@@ -90,11 +66,7 @@ release-spec =
     (tie.spec
     Inv-loop
     μ-loop
-    mul-capped
-    add-capped
-    add-capped-2
-    mul-capped-2
-    element-copy-out-capped
+    held-of-requires
     capped-requires
     cast-held
     loop-holds
@@ -102,10 +74,6 @@ release-spec =
     add-k
     loop-less
     loop-again
-    cast-memory
-    mul-memory
-    add-memory
-    add-memory-2
-    mul-memory-2
-    element-write-memory
+    cast-set-held
+    set-held-requires
     returns)

@@ -1,5 +1,5 @@
+use mathlib.Core.Path.{sym, _∙_}
 use native.Mathlib.Omega.{arith}
-use borrow.Author.Tests.{eq-eqb, ne-eqb}
 use Rattle.channel.specs.TakeBroadcast.{sweptWords, sweptKept}
 use borrow.Author.Needs.{needs}
 use Rattle.channel.proofs.broadcast.sweep.Statement.{statement}
@@ -14,14 +14,17 @@ load-requires c κs = search needs
 tag-at-requires : tie.Need-tag-at-requires
 tag-at-requires c κs = search needs
 
+waits-requires : tie.Need-waits-requires
+waits-requires c κs = search needs
+
 push-requires : tie.Need-push-requires
 push-requires c κs = search needs
 
 returns : tie.Need-returns
 unfolding sweptKept sweptWords
-returns c = let b = c .before .before .before .before .before .before .before .held-block .ensures .0 in
-    let z = rw (c .before .before .before .tag-at .ensures, b) at (eq-eqb _ _ (c .before .before .if1 .taken)) in
-    let l = rw b at (c .before .before .before .before .before .load .ensures) in
+returns c = let b = c .before .before .before .before .before .before .before .before .held-block .ensures .0 in
+    let z = rw (c .before .before .before .before .tag-at .ensures, b) at (sym (c .before .before .before .waits .ensures) ∙ c .before .before .if1 .taken) in
+    let l = rw b at (c .before .before .before .before .before .before .load .ensures) in
     (simp z (simp l at (c .push .ensures)), (simp z, omega arith))
 
 held-block-requires-2 : tie.Need-held-block-requires-2
@@ -35,10 +38,10 @@ add-result c = search needs
 
 returns-2 : tie.Need-returns-2
 unfolding sweptKept sweptWords
-returns-2 c = let b = c .before .before .before .before .before .before .before .before .held-block .ensures .0 in
-    let m = rw b at (c .before .before .before .before .tag-at .ensures) in
-    let z = rw m at (ne-eqb _ _ (c .before .before .before .if1 .left)) in
-    let l = rw b at (c .before .before .before .before .before .before .load .ensures) in
+returns-2 c = let b = c .before .before .before .before .before .before .before .before .before .held-block .ensures .0 in
+    let m = rw b at (c .before .before .before .before .before .tag-at .ensures) in
+    let z = rw m at (sym (c .before .before .before .before .waits .ensures) ∙ c .before .before .before .if1 .left) in
+    let l = rw b at (c .before .before .before .before .before .before .before .load .ensures) in
     (simp z (simp (c .before .held-block2 .ensures .0, l, m) at (c .store .ensures)), (simp z, omega arith))
 
 pub sweep-spec : {M : Type 1} → statement M
@@ -48,6 +51,7 @@ sweep-spec =
     held-block-requires
     load-requires
     tag-at-requires
+    waits-requires
     push-requires
     returns
     held-block-requires-2

@@ -3,17 +3,11 @@ use borrow.Author.Needs.{needs}
 use Rattle.channel.proofs.broadcast.take_next.Statement.{statement}
 use Rattle.channel.proofs.broadcast.take_next.Tie as tie
 
-cast-load : tie.Need-cast-load
-cast-load c = search needs
-
-add-load : tie.Need-add-load
-add-load c = search needs
+broadcast-block-requires : tie.Need-broadcast-block-requires
+broadcast-block-requires c κs = search needs
 
 load-requires : tie.Need-load-requires
 load-requires c κs = search needs
-
-cast-t8 : tie.Need-cast-t8
-cast-t8 c = search needs
 
 member-requires : tie.Need-member-requires
 member-requires c κs = search needs
@@ -28,14 +22,14 @@ join-requires : tie.Need-join-requires
 join-requires c κs = search needs
 
 returns : tie.Need-returns
-returns c = let l = c .before .before .before .before .before .before .before .load .ensures in
+returns c = let b = c .before .before .before .before .before .before .before .before .broadcast-block .ensures .0 in let l = rw b at (c .before .before .before .before .before .before .before .load .ensures) in
     let t = simp l at (c .before .before .before .before .before .before .member .ensures) in
     let a = simp t at (c .before .before .before .before .room .ensures) in
     let d = simp a at (sym (c .before .before .before .done .ensures) ∙ c .before .before .if1 .taken) in
     (simp d (simp (l, t) at (c .join .ensures)), a)
 
 returns-2 : tie.Need-returns-2
-returns-2 c = let l = c .before .before .before .before .before .load .ensures in
+returns-2 c = let b = c .before .before .before .before .before .before .broadcast-block .ensures .0 in let l = rw b at (c .before .before .before .before .before .load .ensures) in
     let t = simp l at (c .before .before .before .before .member .ensures) in
     let a = simp t at (c .before .before .room .ensures) in
     let d = simp a at (sym (c .before .done .ensures) ∙ c .if1 .left) in
@@ -45,10 +39,8 @@ pub take-next-spec : {M : Type 1} → statement M
 take-next-spec =
     tie.close
     (tie.spec
-    cast-load
-    add-load
+    broadcast-block-requires
     load-requires
-    cast-t8
     member-requires
     room-requires
     done-requires

@@ -14,24 +14,15 @@ returns c = simp (rw (c .before .count-of .ensures) at (eq-eqb _ _ (c .if1 .take
 head-of-requires : tie.Need-head-of-requires
 head-of-requires c κs = search needs
 
-mul-load : tie.Need-mul-load
-mul-load c = search needs
-
-add-load : tie.Need-add-load
-add-load c = search needs
-
-cast-load : tie.Need-cast-load
-cast-load c = search needs
-
-add-load-2 : tie.Need-add-load-2
-add-load-2 c = search needs
+inbox-block-requires : tie.Need-inbox-block-requires
+inbox-block-requires c κs = search needs
 
 load-requires : tie.Need-load-requires
 load-requires c κs = search needs
 
 returns-2 : tie.Need-returns-2
 unfolding gotOf
-returns-2 c = let z = rw (c .before .before .before .before .count-of .ensures) at (ne-eqb _ _ (c .before .before .before .if1 .left)) in simp (z, c .before .load .ensures, c .before .before .head-of .ensures)
+returns-2 c = let z = rw (c .before .before .before .before .before .count-of .ensures) at (ne-eqb _ _ (c .before .before .before .before .if1 .left)) in simp (z, c .before .load .ensures, c .before .before .inbox-block .ensures .0, c .before .before .before .head-of .ensures)
 
 pub first-spec : {M : Type 1} → statement M
 first-spec =
@@ -40,9 +31,6 @@ first-spec =
     count-of-requires
     returns
     head-of-requires
-    mul-load
-    add-load
-    cast-load
-    add-load-2
+    inbox-block-requires
     load-requires
     returns-2)

@@ -11,15 +11,12 @@ returns : tie.Need-returns
 unfolding receiveAnswer receiveMemory
 returns c = let z = rw (c .before .before .cards .ensures .0) at (le-ltb _ _ (c .if1 .taken)) in (simp z, simp z)
 
-cast-pop : tie.Need-cast-pop
-cast-pop c = search needs
-
 pop-requires : tie.Need-pop-requires
 pop-requires c κs = search needs
 
 returns-2 : tie.Need-returns-2
 unfolding receiveAnswer receiveMemory
-returns-2 c = let z = rw (c .before .before .before .before .before .cards .ensures .0) at (lt-ltb _ _ (c .before .before .before .if1 .left)) in (simp z (c .pop .ensures .0), simp z (c .pop .ensures .1))
+returns-2 c = let z = rw (c .before .before .before .before .cards .ensures .0) at (lt-ltb _ _ (c .before .before .if1 .left)) in (simp z (c .pop .ensures .0), simp z (c .pop .ensures .1))
 
 pub receive-spec : {M : Type 1} → statement M
-receive-spec = tie.close (tie.spec cards-requires returns cast-pop pop-requires returns-2)
+receive-spec = tie.close (tie.spec cards-requires returns pop-requires returns-2)

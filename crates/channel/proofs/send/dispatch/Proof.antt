@@ -12,9 +12,6 @@ returns : tie.Need-returns
 unfolding dispatchAnswer dispatchMemory
 returns c = let z = rw (c .before .before .cards .ensures .0) at (le-ltb _ _ (c .if1 .taken)) in (simp z, simp z)
 
-cast-i : tie.Need-cast-i
-cast-i c = search needs
-
 several-requires : tie.Need-several-requires
 several-requires c κs = search needs
 
@@ -23,14 +20,23 @@ cast-requires c κs = search needs
 
 returns-2 : tie.Need-returns-2
 unfolding dispatchAnswer dispatchMemory
-returns-2 c = let z = rw (c .before .before .before .before .before .before .before .cards .ensures .0) at (lt-ltb _ _ (c .before .before .before .before .before .if1 .left)) in let y = sym (c .before .before .before .several .ensures) ∙ c .before .before .if2 .taken in (simp (z, y) (c .cast .ensures .0), simp (z, y) (c .cast .ensures .1))
+returns-2 c = let z = rw (c .before .before .before .before .before .before .cards .ensures .0) at (lt-ltb _ _ (c .before .before .before .before .if1 .left)) in let y = sym (c .before .before .before .several .ensures) ∙ c .before .before .if2 .taken in (simp (z, y) (c .cast .ensures .0), simp (z, y) (c .cast .ensures .1))
 
 fly-requires : tie.Need-fly-requires
 fly-requires c κs = search needs
 
 returns-3 : tie.Need-returns-3
 unfolding dispatchAnswer dispatchMemory
-returns-3 c = let z = rw (c .before .before .before .before .before .before .before .cards .ensures .0) at (lt-ltb _ _ (c .before .before .before .before .before .if1 .left)) in let y = sym (c .before .before .before .several .ensures) ∙ c .before .before .if2 .left in (simp (z, y) (c .fly .ensures .0), simp (z, y) (c .fly .ensures .1))
+returns-3 c = let z = rw (c .before .before .before .before .before .before .cards .ensures .0) at (lt-ltb _ _ (c .before .before .before .before .if1 .left)) in let y = sym (c .before .before .before .several .ensures) ∙ c .before .before .if2 .left in (simp (z, y) (c .fly .ensures .0), simp (z, y) (c .fly .ensures .1))
 
 pub dispatch-spec : {M : Type 1} → statement M
-dispatch-spec = tie.close (tie.spec cards-requires returns cast-i several-requires cast-requires returns-2 fly-requires returns-3)
+dispatch-spec =
+    tie.close
+    (tie.spec
+    cards-requires
+    returns
+    several-requires
+    cast-requires
+    returns-2
+    fly-requires
+    returns-3)

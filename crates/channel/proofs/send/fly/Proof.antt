@@ -27,9 +27,6 @@ returns : tie.Need-returns
 unfolding flyAnswer flyMemory isDone
 returns c = let z = sym (c .before .fits2 .ensures) ∙ not-true _ (c .if1 .taken) in (simp z, simp z)
 
-cast-t : tie.Need-cast-t
-cast-t c = search needs
-
 no-flight-requires : tie.Need-no-flight-requires
 no-flight-requires c κs = let b = fits-task _ _ (sym (c .before .before .before .before .fits2 .ensures) ∙ not-false _ (c .before .before .before .if1 .left)) in search needs
 
@@ -42,17 +39,17 @@ returns-2 c = let z = sym (c .before .before .before .before .before .before .fi
 taken-of-requires : tie.Need-taken-of-requires
 taken-of-requires c κs = search needs
 
-add-store : tie.Need-add-store
-add-store c = search needs
+flight-block-requires : tie.Need-flight-block-requires
+flight-block-requires c κs = let b = fits-task _ _ (sym (c .before .before .before .before .before .before .before .before .before .fits2 .ensures) ∙ not-false _ (c .before .before .before .before .before .before .before .before .if1 .left)) in search needs
 
 store-requires : tie.Need-store-requires
-store-requires c κs = let b = fits-task _ _ (sym (c .before .before .before .before .before .before .before .before .before .fits2 .ensures) ∙ not-false _ (c .before .before .before .before .before .before .before .before .if1 .left)) in search needs
+store-requires c κs = search needs
 
 returns-3 : tie.Need-returns-3
 unfolding flyAnswer flyMemory isDone
-returns-3 c = let z = sym (c .before .before .before .before .before .before .before .before .before .before .fits2 .ensures) ∙ not-false _ (c .before .before .before .before .before .before .before .before .before .if1 .left) in
-    let y = sym (c .before .before .before .before .before .no-flight .ensures) ∙ not-false _ (c .before .before .before .before .if2 .left) in
-    (simp (z, y, c .store .ensures, c .before .before .taken-of .ensures), simp (z, y))
+returns-3 c = let z = sym (c .before .before .before .before .before .before .before .before .before .before .before .fits2 .ensures) ∙ not-false _ (c .before .before .before .before .before .before .before .before .before .before .if1 .left) in
+    let y = sym (c .before .before .before .before .before .before .no-flight .ensures) ∙ not-false _ (c .before .before .before .before .before .if2 .left) in
+    (simp (z, y, c .store .ensures, c .before .flight-block .ensures .0, c .before .before .before .taken-of .ensures), simp (z, y))
 
 pub fly-spec : {M : Type 1} → statement M
 fly-spec =
@@ -60,10 +57,9 @@ fly-spec =
     (tie.spec
     fits-requires
     returns
-    cast-t
     no-flight-requires
     returns-2
     taken-of-requires
-    add-store
+    flight-block-requires
     store-requires
     returns-3)

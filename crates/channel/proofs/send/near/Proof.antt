@@ -18,9 +18,6 @@ abbrev μ-loop : tie.MeasureT-loop
 cards-requires : tie.Need-cards-requires Inv-loop μ-loop
 cards-requires c κs = search needs
 
-cast-n : tie.Need-cast-n Inv-loop μ-loop
-cast-n c = search needs
-
 loop-holds : tie.Need-loop-holds Inv-loop μ-loop
 loop-holds c = (omega arith, each-zero _)
 
@@ -51,7 +48,6 @@ near-spec =
     Inv-loop
     μ-loop
     cards-requires
-    cast-n
     loop-holds
     near-at-requires
     returns

@@ -9,8 +9,8 @@ taken-of-requires c κs = search needs
 wide-requires : tie.Need-wide-requires
 wide-requires c κs = search needs
 
-element-copy-out-wide : tie.Need-element-copy-out-wide
-element-copy-out-wide c = search needs
+made-requires : tie.Need-made-requires
+made-requires c κs = search needs
 
 wide-requires-2 : tie.Need-wide-requires-2
 wide-requires-2 c κs = search needs
@@ -23,7 +23,7 @@ add-result-2 c = search needs
 
 returns : tie.Need-returns
 unfolding nearAt
-returns c = rw (← (c .before .before .before .taken-of .ensures), ← (c .before .before .wide .ensures .0), ← (c .wide2 .ensures .0))
+returns c = rw (← (c .before .before .before .taken-of .ensures), ← (c .before .made .ensures), ← (c .before .before .wide .ensures .0), ← (c .wide2 .ensures .0))
 
 pub near-at-spec : {M : Type 1} → statement M
 near-at-spec =
@@ -31,7 +31,7 @@ near-at-spec =
     (tie.spec
     taken-of-requires
     wide-requires
-    element-copy-out-wide
+    made-requires
     wide-requires-2
     add-result
     add-result-2

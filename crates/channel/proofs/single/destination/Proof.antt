@@ -22,11 +22,8 @@ sole-below to i e h =
 sole-requires : tie.Need-sole-requires
 sole-requires c κs = search needs
 
-cast-result : tie.Need-cast-result
-cast-result c = search needs
-
 returns : tie.Need-returns
 returns c = (c .sole .ensures, sole-below _ _ (c .sole .ensures) (c .before .pre))
 
 pub destination-spec : {M : Type 1} → statement M
-destination-spec = tie.close (tie.spec sole-requires cast-result returns)
+destination-spec = tie.close (tie.spec sole-requires returns)

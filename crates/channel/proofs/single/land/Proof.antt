@@ -3,14 +3,14 @@ use borrow.Author.Needs.{needs}
 use Rattle.channel.proofs.single.land.Statement.{statement}
 use Rattle.channel.proofs.single.land.Tie as tie
 
-add-memory : tie.Need-add-memory
-add-memory c = search needs
+flight-block-requires : tie.Need-flight-block-requires
+flight-block-requires c κs = search needs
+
+mul-at : tie.Need-mul-at
+mul-at c = search needs
 
 mul-memory : tie.Need-mul-memory
 mul-memory c = search needs
-
-mul-memory-2 : tie.Need-mul-memory-2
-mul-memory-2 c = search needs
 
 element-write-memory : tie.Need-element-write-memory
 element-write-memory c = search needs
@@ -20,22 +20,22 @@ push-requires c κs = search needs
 
 returns : tie.Need-returns
 unfolding landed
-returns c = rw (c .before .before .if1 .taken) (c .push .ensures)
+returns c = rw (c .before .before .if1 .taken, ← (c .before .before .before .flight-block .ensures .0)) (c .push .ensures)
 
 hold-requires : tie.Need-hold-requires
 hold-requires c κs = search needs
 
 returns-2 : tie.Need-returns-2
 unfolding landed
-returns-2 c = rw (c .before .before .if1 .left) (c .hold .ensures)
+returns-2 c = rw (c .before .before .if1 .left, ← (c .before .before .before .flight-block .ensures .0)) (c .hold .ensures)
 
 pub land-spec : {M : Type 1} → statement M
 land-spec =
     tie.close
     (tie.spec
-    add-memory
+    flight-block-requires
+    mul-at
     mul-memory
-    mul-memory-2
     element-write-memory
     push-requires
     returns

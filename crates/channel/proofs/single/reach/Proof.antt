@@ -5,8 +5,8 @@ use borrow.Author.Needs.{needs}
 use Rattle.channel.proofs.single.reach.Statement.{statement}
 use Rattle.channel.proofs.single.reach.Tie as tie
 
-add-load : tie.Need-add-load
-add-load c = search needs
+flight-block-requires : tie.Need-flight-block-requires
+flight-block-requires c κs = search needs
 
 load-requires : tie.Need-load-requires
 load-requires c κs = search needs
@@ -16,10 +16,7 @@ single-requires c κs = search needs
 
 returns : tie.Need-returns
 unfolding isDone
-returns c = let x = simp (c .before .before .load .ensures) at (sym (c .before .single .ensures) ∙ not-true _ (c .if1 .taken)) in (simp x, simp x)
-
-add-tag-at : tie.Need-add-tag-at
-add-tag-at c = search needs
+returns c = let x = simp (c .before .before .load .ensures, c .before .before .before .before .flight-block .ensures .0) at (sym (c .before .single .ensures) ∙ not-true _ (c .if1 .taken)) in (simp x, simp x)
 
 tag-at-requires : tie.Need-tag-at-requires
 tag-at-requires c κs = search needs
@@ -40,9 +37,9 @@ land-requires : tie.Need-land-requires
 land-requires c κs = search needs
 
 returns-2 : tie.Need-returns-2
-returns-2 c = let l = c .before .before .before .before .before .before .before .before .before .before .before .before .before .load .ensures in
+returns-2 c = let b = c .before .before .before .before .before .before .before .before .before .before .before .before .before .before .before .flight-block .ensures .0 in let l = rw b at (c .before .before .before .before .before .before .before .before .before .before .before .before .before .load .ensures) in
     let x = simp l at (sym (c .before .before .before .before .before .before .before .before .before .before .before .before .single .ensures) ∙ not-false _ (c .before .before .before .before .before .before .before .before .before .before .before .if1 .left)) in
-    let g = c .before .before .before .before .before .before .before .before .before .tag-at .ensures in
+    let g = rw b at (c .before .before .before .before .before .before .before .before .before .tag-at .ensures) in
     let i = simp l at (c .before .before .before .before .before .before .before .before .destination .ensures .0) in
     let j = simp (i, g) at (c .before .before .before .before .before .before .joins-at .ensures) in
     let a = simp (i, j) at (c .before .before .before .before .may-land .ensures) in
@@ -50,9 +47,9 @@ returns-2 c = let l = c .before .before .before .before .before .before .before 
     (simp (x, d) (simp (l, i, j, g) at (c .land .ensures)), simp x a)
 
 returns-3 : tie.Need-returns-3
-returns-3 c = let l = c .before .before .before .before .before .before .before .before .before .before .before .load .ensures in
+returns-3 c = let b = c .before .before .before .before .before .before .before .before .before .before .before .before .before .flight-block .ensures .0 in let l = rw b at (c .before .before .before .before .before .before .before .before .before .before .before .load .ensures) in
     let x = simp l at (sym (c .before .before .before .before .before .before .before .before .before .before .single .ensures) ∙ not-false _ (c .before .before .before .before .before .before .before .before .before .if1 .left)) in
-    let g = c .before .before .before .before .before .before .before .tag-at .ensures in
+    let g = rw b at (c .before .before .before .before .before .before .before .tag-at .ensures) in
     let i = simp l at (c .before .before .before .before .before .before .destination .ensures .0) in
     let j = simp (i, g) at (c .before .before .before .before .joins-at .ensures) in
     let a = simp (i, j) at (c .before .before .may-land .ensures) in
@@ -63,11 +60,10 @@ pub reach-spec : {M : Type 1} → statement M
 reach-spec =
     tie.close
     (tie.spec
-    add-load
+    flight-block-requires
     load-requires
     single-requires
     returns
-    add-tag-at
     tag-at-requires
     destination-requires
     joins-at-requires

@@ -17,7 +17,7 @@ fits-requires c κs = search needs
 
 returns : tie.Need-returns
 unfolding blockFits
-returns c = rw (← (c .before .before .before .kind-at .ensures), ← (c .before .before .tag-at .ensures), ← (c .before .load .ensures), ← (c .fits2 .ensures))
+returns c = rw (← (c .before .before .before .before .kind-at .ensures), ← (c .before .before .before .tag-at .ensures), ← (c .before .before .load .ensures), ← (c .fits2 .ensures))
 
 pub block-fits-spec : {M : Type 1} → statement M
 block-fits-spec =

@@ -3,11 +3,8 @@ use borrow.Author.Needs.{needs}
 use Rattle.channel.proofs.sized.broadcast_fits.Statement.{statement}
 use Rattle.channel.proofs.sized.broadcast_fits.Tie as tie
 
-cast-block : tie.Need-cast-block
-cast-block c = search needs
-
-add-block : tie.Need-add-block
-add-block c = search needs
+broadcast-block-requires : tie.Need-broadcast-block-requires
+broadcast-block-requires c κs = search needs
 
 to-at-requires : tie.Need-to-at-requires
 to-at-requires c κs = search needs
@@ -20,9 +17,9 @@ several-requires c κs = search needs
 
 returns : tie.Need-returns
 unfolding broadcastFits
-returns c = rw (← (c .before .before .to-at .ensures), ← (c .before .block-fits .ensures), ← (c .several .ensures))
+returns c = rw (← (c .before .before .before .broadcast-block .ensures .0), ← (c .before .before .to-at .ensures), ← (c .before .block-fits .ensures), ← (c .several .ensures))
 
 pub broadcast-fits-spec : {M : Type 1} → statement M
 broadcast-fits-spec =
     tie.close
-    (tie.spec cast-block add-block to-at-requires block-fits-requires several-requires returns)
+    (tie.spec broadcast-block-requires to-at-requires block-fits-requires several-requires returns)

@@ -18,9 +18,6 @@ abbrev μ-loop : tie.MeasureT-loop
 cards-requires : tie.Need-cards-requires Inv-loop μ-loop
 cards-requires c κs = search needs
 
-cast-n : tie.Need-cast-n Inv-loop μ-loop
-cast-n c = search needs
-
 loop-holds : tie.Need-loop-holds Inv-loop μ-loop
 loop-holds c = (omega arith, each-zero _)
 
@@ -43,4 +40,16 @@ returns-2 : tie.Need-returns-2 Inv-loop μ-loop
 returns-2 c = let e : c .before .loop .i ≡ c .before .before .cards .result = omega arith in rw (← (c .before .before .cards .ensures .0), ← e) (sym (c .before .loop .inv .1))
 
 pub card-all-spec : {M : Type 1} → statement M
-card-all-spec = tie.close (tie.spec Inv-loop μ-loop cards-requires cast-n loop-holds card-fits-requires returns add-i loop-less loop-again returns-2)
+card-all-spec =
+    tie.close
+    (tie.spec
+    Inv-loop
+    μ-loop
+    cards-requires
+    loop-holds
+    card-fits-requires
+    returns
+    add-i
+    loop-less
+    loop-again
+    returns-2)

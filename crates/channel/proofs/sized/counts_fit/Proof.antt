@@ -9,8 +9,8 @@ taken-of-requires c κs = search needs
 wide-requires : tie.Need-wide-requires
 wide-requires c κs = search needs
 
-element-copy-out-wide : tie.Need-element-copy-out-wide
-element-copy-out-wide c = search needs
+made-requires : tie.Need-made-requires
+made-requires c κs = search needs
 
 wide-requires-2 : tie.Need-wide-requires-2
 wide-requires-2 c κs = search needs
@@ -29,7 +29,7 @@ held-of-requires c κs = search needs
 
 returns : tie.Need-returns
 unfolding countsFit
-returns c = rw (← (c .before .before .before .before .before .before .taken-of .ensures), ← (c .before .before .before .before .before .wide .ensures .0), ← (c .before .before .before .wide2 .ensures .0), ← (c .before .before .head-of .ensures), ← (c .before .count-of .ensures), ← (c .held-of .ensures))
+returns c = rw (← (c .before .before .before .before .before .before .taken-of .ensures), ← (c .before .before .before .before .made .ensures), ← (c .before .before .before .before .before .wide .ensures .0), ← (c .before .before .before .wide2 .ensures .0), ← (c .before .before .head-of .ensures), ← (c .before .count-of .ensures), ← (c .held-of .ensures))
 
 pub counts-fit-spec : {M : Type 1} → statement M
 counts-fit-spec =
@@ -37,7 +37,7 @@ counts-fit-spec =
     (tie.spec
     taken-of-requires
     wide-requires
-    element-copy-out-wide
+    made-requires
     wide-requires-2
     add-result
     head-of-requires

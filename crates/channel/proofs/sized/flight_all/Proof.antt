@@ -18,9 +18,6 @@ abbrev μ-loop : tie.MeasureT-loop
 tasks-requires : tie.Need-tasks-requires Inv-loop μ-loop
 tasks-requires c κs = search needs
 
-cast-n : tie.Need-cast-n Inv-loop μ-loop
-cast-n c = search needs
-
 loop-holds : tie.Need-loop-holds Inv-loop μ-loop
 loop-holds c = (omega arith, each-zero _)
 
@@ -43,4 +40,16 @@ returns-2 : tie.Need-returns-2 Inv-loop μ-loop
 returns-2 c = let e : c .before .loop .t ≡ c .before .before .tasks .result = omega arith in rw (← (c .before .before .tasks .ensures .0), ← e) (sym (c .before .loop .inv .1))
 
 pub flight-all-spec : {M : Type 1} → statement M
-flight-all-spec = tie.close (tie.spec Inv-loop μ-loop tasks-requires cast-n loop-holds flight-fits-requires returns add-t loop-less loop-again returns-2)
+flight-all-spec =
+    tie.close
+    (tie.spec
+    Inv-loop
+    μ-loop
+    tasks-requires
+    loop-holds
+    flight-fits-requires
+    returns
+    add-t
+    loop-less
+    loop-again
+    returns-2)

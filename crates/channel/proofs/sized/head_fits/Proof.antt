@@ -3,8 +3,8 @@ use Rattle.channel.specs.Sized.{headFits}
 use Rattle.channel.proofs.sized.head_fits.Statement.{statement}
 use Rattle.channel.proofs.sized.head_fits.Tie as tie
 
-element-copy-out-made : tie.Need-element-copy-out-made
-element-copy-out-made c = search needs
+made-requires : tie.Need-made-requires
+made-requires c κs = search needs
 
 element-copy-out-sizes-fit : tie.Need-element-copy-out-sizes-fit
 element-copy-out-sizes-fit c = search needs
@@ -20,13 +20,13 @@ sizes-fit-requires c κs = search needs
 
 returns : tie.Need-returns
 unfolding headFits
-returns c = rw (← (c .sizes-fit .ensures))
+returns c = rw (← (c .before .before .before .before .before .made .ensures), ← (c .before .sizes-fit .ensures))
 
 pub head-fits-spec : {M : Type 1} → statement M
 head-fits-spec =
     tie.close
     (tie.spec
-    element-copy-out-made
+    made-requires
     element-copy-out-sizes-fit
     element-copy-out-sizes-fit-2
     element-copy-out-sizes-fit-3

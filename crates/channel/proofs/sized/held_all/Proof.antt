@@ -10,25 +10,13 @@ use Rattle.channel.proofs.sized.held_all.Statement.{statement}
 use Rattle.channel.proofs.sized.held_all.Tie as tie
 
 abbrev Inv-loop : tie.InvT-loop
-Inv-loop memory i n k₀ k = (k ≤ n) × (each k (heldFits memory i) ≡ true)
+Inv-loop memory card n k₀ k = (k ≤ n) × (each k (heldFits memory (card .0)) ≡ true)
 
 abbrev μ-loop : tie.MeasureT-loop
-μ-loop memory i n k₀ k = n - k
+μ-loop memory card n k₀ k = n - k
 
-mul-capped : tie.Need-mul-capped Inv-loop μ-loop
-mul-capped c = search needs
-
-add-capped : tie.Need-add-capped Inv-loop μ-loop
-add-capped c = search needs
-
-add-capped-2 : tie.Need-add-capped-2 Inv-loop μ-loop
-add-capped-2 c = search needs
-
-mul-capped-2 : tie.Need-mul-capped-2 Inv-loop μ-loop
-mul-capped-2 c = search needs
-
-element-copy-out-capped : tie.Need-element-copy-out-capped Inv-loop μ-loop
-element-copy-out-capped c = search needs
+held-of-requires : tie.Need-held-of-requires Inv-loop μ-loop
+held-of-requires c κs = search needs
 
 capped-requires : tie.Need-capped-requires Inv-loop μ-loop
 capped-requires c κs = search needs
@@ -43,7 +31,7 @@ held-fits-requires : tie.Need-held-fits-requires Inv-loop μ-loop
 held-fits-requires c κs = search needs
 
 returns : tie.Need-returns Inv-loop μ-loop
-returns c = rw (← (c .before .before .before .before .capped .ensures)) (sym (each-fails _ _ (c .before .before .before .loop .k) (omega arith) (sym (c .before .held-fits .ensures) ∙ not-true _ (c .if1 .taken))))
+returns c = rw (← (c .before .before .before .before .before .held-of .ensures), ← (c .before .before .before .before .capped .ensures)) (sym (each-fails _ _ (c .before .before .before .loop .k) (omega arith) (sym (c .before .held-fits .ensures) ∙ not-true _ (c .if1 .taken))))
 
 add-k : tie.Need-add-k Inv-loop μ-loop
 add-k c = search needs
@@ -55,7 +43,21 @@ loop-again : tie.Need-loop-again Inv-loop μ-loop
 loop-again c = (omega arith, each-more _ _ (c .before .before .before .loop .inv .1) (sym (c .before .held-fits .ensures) ∙ not-false _ (c .if1 .left)))
 
 returns-2 : tie.Need-returns-2 Inv-loop μ-loop
-returns-2 c = let e : c .before .loop .k ≡ c .before .before .capped .result = omega arith in rw (← (c .before .before .capped .ensures), ← e) (sym (c .before .loop .inv .1))
+returns-2 c = let e : c .before .loop .k ≡ c .before .before .capped .result = omega arith in rw (← (c .before .before .before .held-of .ensures), ← (c .before .before .capped .ensures), ← e) (sym (c .before .loop .inv .1))
 
 pub held-all-spec : {M : Type 1} → statement M
-held-all-spec = tie.close (tie.spec Inv-loop μ-loop mul-capped add-capped add-capped-2 mul-capped-2 element-copy-out-capped capped-requires cast-n loop-holds held-fits-requires returns add-k loop-less loop-again returns-2)
+held-all-spec =
+    tie.close
+    (tie.spec
+    Inv-loop
+    μ-loop
+    held-of-requires
+    capped-requires
+    cast-n
+    loop-holds
+    held-fits-requires
+    returns
+    add-k
+    loop-less
+    loop-again
+    returns-2)

@@ -15,9 +15,6 @@ block-fits-requires c κs = search needs
 single-requires : tie.Need-single-requires
 single-requires c κs = search needs
 
-cast-t10 : tie.Need-cast-t10
-cast-t10 c = search needs
-
 member-requires : tie.Need-member-requires
 member-requires c κs = search needs
 
@@ -33,6 +30,5 @@ held-fits-spec =
     to-at-requires
     block-fits-requires
     single-requires
-    cast-t10
     member-requires
     returns)

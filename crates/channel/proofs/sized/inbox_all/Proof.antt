@@ -10,25 +10,13 @@ use Rattle.channel.proofs.sized.inbox_all.Statement.{statement}
 use Rattle.channel.proofs.sized.inbox_all.Tie as tie
 
 abbrev Inv-loop : tie.InvT-loop
-Inv-loop memory i n k₀ k = (k ≤ n) × (each k (inboxFits memory i) ≡ true)
+Inv-loop memory card n k₀ k = (k ≤ n) × (each k (inboxFits memory (card .0)) ≡ true)
 
 abbrev μ-loop : tie.MeasureT-loop
-μ-loop memory i n k₀ k = n - k
+μ-loop memory card n k₀ k = n - k
 
-mul-capped : tie.Need-mul-capped Inv-loop μ-loop
-mul-capped c = search needs
-
-add-capped : tie.Need-add-capped Inv-loop μ-loop
-add-capped c = search needs
-
-add-capped-2 : tie.Need-add-capped-2 Inv-loop μ-loop
-add-capped-2 c = search needs
-
-mul-capped-2 : tie.Need-mul-capped-2 Inv-loop μ-loop
-mul-capped-2 c = search needs
-
-element-copy-out-capped : tie.Need-element-copy-out-capped Inv-loop μ-loop
-element-copy-out-capped c = search needs
+count-of-requires : tie.Need-count-of-requires Inv-loop μ-loop
+count-of-requires c κs = search needs
 
 capped-requires : tie.Need-capped-requires Inv-loop μ-loop
 capped-requires c κs = search needs
@@ -40,7 +28,7 @@ inbox-fits-requires : tie.Need-inbox-fits-requires Inv-loop μ-loop
 inbox-fits-requires c κs = search needs
 
 returns : tie.Need-returns Inv-loop μ-loop
-returns c = rw (← (c .before .before .before .before .capped .ensures)) (sym (each-fails _ _ (c .before .before .before .loop .k) (omega arith) (sym (c .before .inbox-fits .ensures) ∙ not-true _ (c .if1 .taken))))
+returns c = rw (← (c .before .before .before .before .before .count-of .ensures), ← (c .before .before .before .before .capped .ensures)) (sym (each-fails _ _ (c .before .before .before .loop .k) (omega arith) (sym (c .before .inbox-fits .ensures) ∙ not-true _ (c .if1 .taken))))
 
 add-k : tie.Need-add-k Inv-loop μ-loop
 add-k c = search needs
@@ -52,7 +40,20 @@ loop-again : tie.Need-loop-again Inv-loop μ-loop
 loop-again c = (omega arith, each-more _ _ (c .before .before .before .loop .inv .1) (sym (c .before .inbox-fits .ensures) ∙ not-false _ (c .if1 .left)))
 
 returns-2 : tie.Need-returns-2 Inv-loop μ-loop
-returns-2 c = let e : c .before .loop .k ≡ c .before .before .capped .result = omega arith in rw (← (c .before .before .capped .ensures), ← e) (sym (c .before .loop .inv .1))
+returns-2 c = let e : c .before .loop .k ≡ c .before .before .capped .result = omega arith in rw (← (c .before .before .before .count-of .ensures), ← (c .before .before .capped .ensures), ← e) (sym (c .before .loop .inv .1))
 
 pub inbox-all-spec : {M : Type 1} → statement M
-inbox-all-spec = tie.close (tie.spec Inv-loop μ-loop mul-capped add-capped add-capped-2 mul-capped-2 element-copy-out-capped capped-requires loop-holds inbox-fits-requires returns add-k loop-less loop-again returns-2)
+inbox-all-spec =
+    tie.close
+    (tie.spec
+    Inv-loop
+    μ-loop
+    count-of-requires
+    capped-requires
+    loop-holds
+    inbox-fits-requires
+    returns
+    add-k
+    loop-less
+    loop-again
+    returns-2)

@@ -12,9 +12,6 @@ to-at-requires c κs = search needs
 block-fits-requires : tie.Need-block-fits-requires
 block-fits-requires c κs = search needs
 
-cast-t8 : tie.Need-cast-t8
-cast-t8 c = search needs
-
 member-requires : tie.Need-member-requires
 member-requires c κs = search needs
 
@@ -25,4 +22,4 @@ returns c = rw (← (c .before .before .before .place-of .ensures .0), ← (c .b
 pub inbox-fits-spec : {M : Type 1} → statement M
 inbox-fits-spec =
     tie.close
-    (tie.spec place-of-requires to-at-requires block-fits-requires cast-t8 member-requires returns)
+    (tie.spec place-of-requires to-at-requires block-fits-requires member-requires returns)

@@ -10,13 +10,13 @@ use Rattle.channel.proofs.sized.recent_all.Statement.{statement}
 use Rattle.channel.proofs.sized.recent_all.Tie as tie
 
 abbrev Inv-loop : tie.InvT-loop
-Inv-loop memory made n k₀ k = (k ≤ n) × (each k (recentFits memory) ≡ true)
+Inv-loop memory last n k₀ k = (k ≤ n) × (each k (recentFits memory) ≡ true)
 
 abbrev μ-loop : tie.MeasureT-loop
-μ-loop memory made n k₀ k = n - k
+μ-loop memory last n k₀ k = n - k
 
-element-copy-out-made : tie.Need-element-copy-out-made Inv-loop μ-loop
-element-copy-out-made c = search needs
+made-requires : tie.Need-made-requires Inv-loop μ-loop
+made-requires c κs = search needs
 
 capped-requires : tie.Need-capped-requires Inv-loop μ-loop
 capped-requires c κs = search needs
@@ -24,15 +24,15 @@ capped-requires c κs = search needs
 loop-holds : tie.Need-loop-holds Inv-loop μ-loop
 loop-holds c = (omega arith, each-zero _)
 
-sub-broadcast-fits : tie.Need-sub-broadcast-fits Inv-loop μ-loop
-sub-broadcast-fits c = search needs
+sub-t6 : tie.Need-sub-t6 Inv-loop μ-loop
+sub-t6 c = search needs
 
 broadcast-fits-requires : tie.Need-broadcast-fits-requires Inv-loop μ-loop
 broadcast-fits-requires c κs = search needs
 
 returns : tie.Need-returns Inv-loop μ-loop
 unfolding recentFits
-returns c = rw (← (c .before .before .before .before .capped .ensures)) (sym (each-fails _ _ (c .before .before .before .loop .k) (omega arith) (sym (c .before .broadcast-fits .ensures) ∙ not-true _ (c .if1 .taken))))
+returns c = rw (← (c .before .before .before .before .before .before .made .ensures), ← (c .before .before .before .before .before .capped .ensures)) (sym (each-fails _ _ (c .before .before .before .before .loop .k) (omega arith) (sym (rw (c .before .before .before .before .before .before .made .ensures) at (c .before .broadcast-fits .ensures)) ∙ not-true _ (c .if1 .taken))))
 
 add-k : tie.Need-add-k Inv-loop μ-loop
 add-k c = search needs
@@ -42,10 +42,24 @@ loop-less c = search needs
 
 loop-again : tie.Need-loop-again Inv-loop μ-loop
 unfolding recentFits
-loop-again c = (omega arith, each-more _ _ (c .before .before .before .loop .inv .1) (sym (c .before .broadcast-fits .ensures) ∙ not-false _ (c .if1 .left)))
+loop-again c = (omega arith, each-more _ _ (c .before .before .before .before .loop .inv .1) (sym (rw (c .before .before .before .before .before .before .made .ensures) at (c .before .broadcast-fits .ensures)) ∙ not-false _ (c .if1 .left)))
 
 returns-2 : tie.Need-returns-2 Inv-loop μ-loop
-returns-2 c = let e : c .before .loop .k ≡ c .before .before .capped .result = omega arith in rw (← (c .before .before .capped .ensures), ← e) (sym (c .before .loop .inv .1))
+returns-2 c = let e : c .before .loop .k ≡ c .before .before .capped .result = omega arith in rw (← (c .before .before .before .made .ensures), ← (c .before .before .capped .ensures), ← e) (sym (c .before .loop .inv .1))
 
 pub recent-all-spec : {M : Type 1} → statement M
-recent-all-spec = tie.close (tie.spec Inv-loop μ-loop element-copy-out-made capped-requires loop-holds sub-broadcast-fits broadcast-fits-requires returns add-k loop-less loop-again returns-2)
+recent-all-spec =
+    tie.close
+    (tie.spec
+    Inv-loop
+    μ-loop
+    made-requires
+    capped-requires
+    loop-holds
+    sub-t6
+    broadcast-fits-requires
+    returns
+    add-k
+    loop-less
+    loop-again
+    returns-2)

@@ -20,6 +20,24 @@ mul-letter-of c = search needs
 shared-slice-read-letter-of : tie.Need-shared-slice-read-letter-of
 shared-slice-read-letter-of c = search needs
 
+add-t5 : tie.Need-add-t5
+add-t5 c = search needs
+
+mul-t12 : tie.Need-mul-t12
+mul-t12 c = search needs
+
+shared-slice-read-t14 : tie.Need-shared-slice-read-t14
+shared-slice-read-t14 c = search needs
+
+add-t16 : tie.Need-add-t16
+add-t16 c = search needs
+
+mul-t17 : tie.Need-mul-t17
+mul-t17 c = search needs
+
+shared-slice-read-t19 : tie.Need-shared-slice-read-t19
+shared-slice-read-t19 c = search needs
+
 add-letter-of : tie.Need-add-letter-of
 add-letter-of c = search needs
 
@@ -38,6 +56,15 @@ mul-letter-of-3 c = search needs
 shared-slice-read-letter-of-3 : tie.Need-shared-slice-read-letter-of-3
 shared-slice-read-letter-of-3 c = search needs
 
+add-t29 : tie.Need-add-t29
+add-t29 c = search needs
+
+mul-t30 : tie.Need-mul-t30
+mul-t30 c = search needs
+
+shared-slice-read-t32 : tie.Need-shared-slice-read-t32
+shared-slice-read-t32 c = search needs
+
 add-letter-of-3 : tie.Need-add-letter-of-3
 add-letter-of-3 c = search needs
 
@@ -46,33 +73,6 @@ mul-letter-of-4 c = search needs
 
 shared-slice-read-letter-of-4 : tie.Need-shared-slice-read-letter-of-4
 shared-slice-read-letter-of-4 c = search needs
-
-add-letter-of-4 : tie.Need-add-letter-of-4
-add-letter-of-4 c = search needs
-
-mul-letter-of-5 : tie.Need-mul-letter-of-5
-mul-letter-of-5 c = search needs
-
-shared-slice-read-letter-of-5 : tie.Need-shared-slice-read-letter-of-5
-shared-slice-read-letter-of-5 c = search needs
-
-add-letter-of-5 : tie.Need-add-letter-of-5
-add-letter-of-5 c = search needs
-
-mul-letter-of-6 : tie.Need-mul-letter-of-6
-mul-letter-of-6 c = search needs
-
-shared-slice-read-letter-of-6 : tie.Need-shared-slice-read-letter-of-6
-shared-slice-read-letter-of-6 c = search needs
-
-add-letter-of-6 : tie.Need-add-letter-of-6
-add-letter-of-6 c = search needs
-
-mul-letter-of-7 : tie.Need-mul-letter-of-7
-mul-letter-of-7 c = search needs
-
-shared-slice-read-letter-of-7 : tie.Need-shared-slice-read-letter-of-7
-shared-slice-read-letter-of-7 c = search needs
 
 letter-of-requires-2 : tie.Need-letter-of-requires-2
 letter-of-requires-2 c κs = search needs
@@ -90,23 +90,23 @@ load-spec =
     mul-at
     mul-letter-of
     shared-slice-read-letter-of
+    add-t5
+    mul-t12
+    shared-slice-read-t14
+    add-t16
+    mul-t17
+    shared-slice-read-t19
     add-letter-of
     mul-letter-of-2
     shared-slice-read-letter-of-2
     add-letter-of-2
     mul-letter-of-3
     shared-slice-read-letter-of-3
+    add-t29
+    mul-t30
+    shared-slice-read-t32
     add-letter-of-3
     mul-letter-of-4
     shared-slice-read-letter-of-4
-    add-letter-of-4
-    mul-letter-of-5
-    shared-slice-read-letter-of-5
-    add-letter-of-5
-    mul-letter-of-6
-    shared-slice-read-letter-of-6
-    add-letter-of-6
-    mul-letter-of-7
-    shared-slice-read-letter-of-7
     letter-of-requires-2
     returns-2)

@@ -1,10 +1,13 @@
-use borrow.Author.Tests.{le-ltb, eq-eqb}
-use Rattle.runfile.specs.AnswerFile.{answerAt, writeRefusal, written}
-use Rattle.runfile.proofs.AnswerLaws.{puts-answered}
+use Prim.Native.Nat.{_+_}
+use mathlib.Core.Path.{_≡_, ap, _∙_}
+use mathlib.Core.List.{_++_, append-nil}
 use native.Mathlib.Omega.{arith}
-use mathlib.Core.Path.{_∙_}
-use lib.ListN.{length}
+use borrow.Author.Tests.{le-ltb, eq-eqb}
+use lib.ListN.{length, take, drop}
+use Rattle.lists.specs.Parts.{tail-part, tail-rest}
 use Rattle.lists.specs.Tests.{cases}
+use Rattle.runfile.specs.AnswerFile.{headed, resultsPut, valuesFilled, writeRefusal, written}
+use Rattle.runfile.proofs.WriteLaws.{writes-answered}
 use borrow.Author.Needs.{needs}
 use Rattle.runfile.proofs.answer_file.write.Statement.{statement}
 use Rattle.runfile.proofs.answer_file.write.Tie as tie
@@ -27,16 +30,52 @@ returns-3 : tie.Need-returns-3
 unfolding writeRefusal written
 returns-3 c = search (needs, cases)
 
-put-tables-requires : tie.Need-put-tables-requires
-put-tables-requires c κs = search needs
+put-count-requires : tie.Need-put-count-requires
+put-count-requires c κs = search needs
+
+put-results-requires : tie.Need-put-results-requires
+put-results-requires c κs = search needs
+
+add-start : tie.Need-add-start
+add-start c = search needs
+
+sub-fill-values : tie.Need-sub-fill-values
+sub-fill-values c = search needs
+
+part-fill-values-start : tie.Need-part-fill-values-start
+part-fill-values-start c = search needs
+
+part-fill-values-end : tie.Need-part-fill-values-end
+part-fill-values-end c = search needs
+
+fill-values-requires : tie.Need-fill-values-requires
+fill-values-requires c κs = search needs
 
 same-length : tie.Need-same-length
 same-length c = search needs
 
+-- the stores are those of `writes-answered`: the lent part goes back to its place in the output
 returns-4 : tie.Need-returns-4
 unfolding writeRefusal written
-returns-4 c = let r = c .before .before .before .before .before .before .before .before .before .before .args .results .now in let v = c .before .before .before .before .before .before .before .before .before .before .args .values .now in
-    (rw (le-ltb _ _ (c .before .before .before .before .before .before .if1 .left), eq-eqb _ _ (c .before .before .before .before .before .if2 .left), le-ltb _ _ (c .before .before .before .before .if3 .left)), rw (le-ltb _ _ (c .before .before .before .before .before .before .if1 .left), eq-eqb _ _ (c .before .before .before .before .before .if2 .left), le-ltb _ _ (c .before .before .before .before .if3 .left)) (c .before .before .put-tables .ensures ∙ puts-answered (answerAt r v) (length r) (c .before .before .before .before .before .before .before .before .before .before .args .out .now) (omega arith)))
+returns-4 c =
+    let fill = c .before .before in
+    let res = fill .before .before .before .before in
+    let count = res .before .before .before .before in
+    let room = count .before .before in
+    let args = room .before .before .before .before .before .before .args in
+    let r = args .results .now in
+    let v = args .values .now in
+    let n = length r in
+    let ys = res .put-results .last .0 in
+    let y : ys ≡ resultsPut r (headed n (args .out .now)) = res .put-results .ensures ∙ ap (resultsPut r) (count .put-count .ensures) in
+    let e : fill .fill-values .last .0 ≡ valuesFilled v (drop (2 + n) ys) = rw (← tail-part (2 + n) ys) (fill .fill-values .ensures) in
+    let few = le-ltb _ _ (room .before .before .if1 .left) in
+    let even = eq-eqb _ _ (room .before .if2 .left) in
+    let fits = le-ltb _ _ (room .if3 .left) in (
+      rw (few, even, fits),
+      rw (few, even, fits, e, tail-rest (2 + n) ys, append-nil (valuesFilled v (drop (2 + n) ys)))
+          (ap (λ o. take (2 + n) o ++ valuesFilled v (drop (2 + n) o)) y ∙ writes-answered r v (args .out .now) (omega arith) (omega arith)),
+    )
 
 pub write-spec : {M : Type 1} → statement M
 write-spec =
@@ -47,6 +86,12 @@ write-spec =
     mul-if3
     add-if3
     returns-3
-    put-tables-requires
+    put-count-requires
+    put-results-requires
+    add-start
+    sub-fill-values
+    part-fill-values-start
+    part-fill-values-end
+    fill-values-requires
     same-length
     returns-4)

@@ -1,0 +1,3 @@
+pub mod PromiseLaws
+pub mod PaperWording
+pub mod Mistakes
