@@ -32,9 +32,15 @@ function parts(k, end, n, first) {
   return n
 }
 
-# notes which arguments of a crate's functions are the channel's memory: `memory` in the channel's own, `channel` above
-function functions(k, n) {
-  for (k = 1; k <= count; k++) if (word[k] == "fn") {
+# notes which arguments of a crate's functions are the channel's memory: `memory` in the channel's own, `channel` above; and which functions of
+# another crate it passes on as its own
+function functions(k, n, name, head) {
+  for (k = 1; k <= count; k++) if (word[k] == "pub" && word[k + 1] == "use") {
+    name = head = word[k + 2]
+    sub(/^.*@/, "", name)
+    sub(/@.*/, "", head)
+    passed[crate, name] = head
+  } else if (word[k] == "fn") {
     known[crate, word[k + 1]]++
     n = word[k + 2] == "(" ? parts(k + 2) : 0
     for (; n > 0; n--) if (index(part[n], (crate == "channel" ? "memory" : "channel") ":") == 1) takes[crate, word[k + 1], n]++
@@ -54,6 +60,7 @@ function calls(k, home, name, n, many, is) {
   name = word[k]
   home = crate_of(name)
   sub(/^.*@/, "", name)
+  if (!((home, name) in known) && (home, name) in passed) home = passed[home, name]
   many = parts(k + 1)
   for (n = 1; n <= many; n++) {
     is = part[n] ~ /^(&|&mut)?channel$/

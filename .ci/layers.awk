@@ -1,4 +1,4 @@
-# Definitions and proofs of crates/WHO: what they import, open and read. Reads .ci/offered, then the specs of crates/channel and
+# Definitions and proofs of crates/WHO: what they import, open and read. The store is one with the crates that it is made of (`parts`). Reads .ci/offered, then the specs of crates/channel and
 # crates/automaton (what can be opened), then the files of crates/WHO; prints each place that .ci/offered does not allow. A file is read as
 # one line of words without comments, so a form may span lines; `;` stands before each declaration.
 
@@ -28,7 +28,7 @@ function import(k, path, own, name, passes) {
   sub(/^package\./, "", path)
   sub(/\.$/, "", path)
   own = path
-  if (sub("^Rattle·" who "(·(specs|proofs))?(\\.|$)", "", own)) {
+  if (sub("^Rattle·(" parts ")(·(specs|proofs))?(\\.|$)", "", own)) {
     if (file in limits) return k
     if (is_limited(own, word[k + 1] != "{")) say("imports " own ", which is for limits")
     else if (word[k + 1] == "{") for (k += 2; k <= count && word[k] != "}"; k++) {
@@ -76,7 +76,7 @@ function check(k, end, form) {
 }
 
 FNR == 1 {
-  kind = FILENAME ~ /offered$/ ? "offered" : index(FILENAME, "crates/" who "/") ? "checked" : "opened"
+  kind = FILENAME ~ /offered$/ ? "offered" : FILENAME ~ ("crates/(" parts ")/") ? "checked" : "opened"
   if (kind == "checked") files[++number] = FILENAME
 }
 kind == "offered" && NF > 2 {
@@ -101,7 +101,7 @@ END {
   for (n = 1; n <= number; n++) {
     where = file = files[n]
     sub(/^.*crates\//, "", where)
-    sub("^.*crates/" who "/", "", file)
+    sub("^.*crates/(" parts ")/", "", file)
     gsub(/«|»/, "", text[n])
     gsub(/[{}(),;]/, " & ", text[n])
     gsub(/ +/, " ", text[n])

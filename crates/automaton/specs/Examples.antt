@@ -18,6 +18,7 @@ pub data Note : Type 0 where
   reading : Note  -- of register 1, asked of card 1 by task 0
   reply : Note  -- to task 0, on card 0
   partial : Note  -- an update for cards 1 and 2 alone, by task 1
+  second : Note  -- another setting of register 1, on card 1, by task 2
 
 abbrev taskOf : Note → ℕ
 taskOf update = 2
@@ -25,6 +26,7 @@ taskOf setting = 0
 taskOf reading = 0
 taskOf reply = 0
 taskOf partial = 1
+taskOf second = 2
 
 abbrev several : Note → Bool
 several update = true
@@ -32,6 +34,7 @@ several setting = false
 several reading = false
 several reply = false
 several partial = true
+several second = false
 
 abbrev goal : Note → ℕ
 goal update = 0
@@ -39,6 +42,7 @@ goal setting = 1
 goal reading = 1
 goal reply = 0
 goal partial = 1
+goal second = 1
 
 abbrev goes : Note → ℕ → Bool
 goes update i = ltb i 3
@@ -46,6 +50,7 @@ goes setting i = eqb i 1
 goes reading i = eqb i 1
 goes reply i = eqb i 0
 goes partial i = eqb i 1 || eqb i 2
+goes second i = eqb i 1
 
 abbrev notes : Mail Note
 notes = record { task = taskOf; to = goes; multi = several; dest = goal }
@@ -100,6 +105,20 @@ k10-empty = refl
 pub k10-released : (after (k10 ++ (takeBroadcast 0 ∷ []))) .inbox 0 ≡ update ∷ reply ∷ []
 unfolding channelRefusal each
 k10-released = refl
+
+-- Two messages of one tag, which reach card 1 against the order in which they were sent: "held single messages whose tag equals the new
+-- number join, in order of arrival".
+abbrev arrivals : List (ChannelAction Note)
+arrivals =
+    dispatch 2 update ∷ takeBroadcast 0 ∷ takeBroadcast 2 ∷ dispatch 0 setting ∷ dispatch 2 second ∷ takeSingle 2 ∷ takeSingle 0 ∷ []
+
+pub arrivals-held : (after arrivals) .held 1 ≡ record { msg = second; mark = 1 } ∷ record { msg = setting; mark = 1 } ∷ []
+unfolding channelRefusal each
+arrivals-held = refl
+
+pub arrivals-released : (after (arrivals ++ (takeBroadcast 1 ∷ []))) .inbox 1 ≡ update ∷ second ∷ setting ∷ []
+unfolding channelRefusal each
+arrivals-released = refl
 
 -- A card that is no destination counts a broadcast too: card 0 drops it, and what it sends then waits for it at card 1.
 abbrev counted : List (ChannelAction Note)

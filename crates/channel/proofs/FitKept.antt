@@ -5,19 +5,16 @@ use mathlib.Core.Bool.{Bool, true, false, _&&_, _||_}
 use mathlib.Core.List.{List}
 use native.Mathlib.Decide.{ℕ-discrete}
 use native.Mathlib.Omega.{arith}
-use borrow.Author.Tests.{eqb-true}
-use lib.Dec.{eqb}
 use lib.ListN.{length}
-use Rattle.lists.specs.Tests.{clash}
-use Rattle.lists.specs.Conjunctions.{and-three}
-use Rattle.names.specs.CardSet.{memberOf, single, soleOf}
+use Rattle.lists.specs.Tests.{clash, and-fst, and-snd}
+use Rattle.names.specs.CardSet.{single, soleOf}
 use Rattle.names.specs.declared.Letter.{Letter}
 use Rattle.channel.specs.Layout.{madeWord, flightBlock, cardsOf, madeOf}
 use Rattle.names.specs.Letters.{letterAt}
 use Rattle.channel.specs.Letters.{fits}
 use Rattle.channel.specs.TakeSingle.{noFlight, flightTag}
 use Rattle.channel.specs.Sized.{blockFits, flightFits, headFits}
-use Rattle.channel.proofs.Destinations.{sole-member, sole-present}
+use Rattle.channel.proofs.Destinations.{sole-present}
 use Rattle.channel.proofs.SizedFacts.{Sized, cards-most}
 use Rattle.channel.proofs.Frame.{Outside, outside-word}
 use Rattle.channel.specs.MemoryCalls.{SameSizes}
@@ -27,10 +24,8 @@ use Rattle.channel.proofs.FitQueues.{fits-to, fits-small, block-letter,
 -- a message in flight
 pub record FlightLetter (ws : List ℕ) (t : ℕ) (l : Letter) : Type 0 where
   pub fit : fits ws l ≡ true
-  pub own : l .message .task .0 ≡ t
   pub one : single (l .to) ≡ true
   pub present : soleOf (l .to) < cardsOf ws
-  pub there : memberOf (l .to) (soleOf (l .to)) ≡ true
   pub small : flightTag ws t ≤ 65535
 
 or-right : (a b : Bool) → (a || b) ≡ true → a ≡ false → b ≡ true
@@ -41,17 +36,15 @@ pub flight-letter : (ws : List ℕ) (t : ℕ) → flightFits ws t ≡ true → n
 unfolding flightFits
 flight-letter ws t e n =
     let l : Letter = letterAt ws (flightBlock t) in
-    let u = and-three (blockFits ws (flightBlock t)) (eqb (l .message .task .0) t) (single (l .to))
-    (or-right (noFlight ws t) (blockFits ws (flightBlock t) && eqb (l .message .task .0) t && single (l .to)) e n) in
-    let f = block-letter ws (flightBlock t) (u .0) in
-    let s = fits-small ws l f in
+    let u = or-right (noFlight ws t) (blockFits ws ws (flightBlock t) && single (l .to)) e n in
+    let b = and-fst (blockFits ws ws (flightBlock t)) (single (l .to)) u in
+    let o = and-snd (blockFits ws ws (flightBlock t)) (single (l .to)) u in
+    let f = block-letter ws ws (flightBlock t) b in
     record {
       fit = f;
-      own = eqb-true _ _ (u .1);
-      one = u .2;
-      present = sole-present (l .to) s (u .2) (cardsOf ws) (fits-to ws l f);
-      there = sole-member (l .to) s (u .2);
-      small = block-tag ws (flightBlock t) (u .0);
+      one = o;
+      present = sole-present (l .to) (fits-small ws l f) o (cardsOf ws) (fits-to ws l f);
+      small = block-tag ws ws (flightBlock t) b;
     }
 
 pub sized-of : (ws : List ℕ) → length ws ≡ 4808 → Fit ws → Sized ws

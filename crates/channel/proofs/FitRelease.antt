@@ -10,8 +10,6 @@ use lib.Dec.{eqb}
 use lib.ListN.{length, getD}
 use lib.Seq.{getD-set-same}
 use Rattle.lists.specs.Loops.{turns}
-use Rattle.lists.specs.Conjunctions.{and-three}
-use Rattle.names.specs.CardSet.{memberOf, single}
 use Rattle.names.specs.declared.Letter.{Letter}
 use Rattle.automaton.specs.State.{Tagged, released}
 use Rattle.channel.specs.Layout.{headWord, countWord, heldWord, heldBlock, countOf, heldCountOf}
@@ -19,7 +17,7 @@ use Rattle.names.specs.Letters.{letterAt, tagAt, stored}
 use Rattle.channel.specs.Letters.{fits}
 use Rattle.channel.specs.Inbox.{pushed}
 use Rattle.channel.specs.TakeBroadcast.{Sweep, sweeps, swept, releasedWords}
-use Rattle.channel.specs.Sized.{blockFits, heldFits}
+use Rattle.channel.specs.Sized.{heldFits}
 use Rattle.channel.specs.Shows.{heldOf}
 use Rattle.names.proofs.Blocks.{word-other}
 use Rattle.channel.proofs.InboxRing.{pushed-word}
@@ -31,18 +29,14 @@ use Rattle.channel.proofs.FitQueues.{block-letter, block-tag, BoxFit, b
 pub sizes-trans : (us vs ws : List ℕ) → SameSizes us vs → SameSizes vs ws → SameSizes us ws
 sizes-trans us vs ws p q = record { cards = p .cards ∙ q .cards; tasks = p .tasks ∙ q .tasks; registers = p .registers ∙ q .registers }
 
--- a held message's letter: it fits, has one destination, and that is card i; and its tag
-pub record HeldLetter (ws : List ℕ) (i : ℕ) (l : Letter) (tag : ℕ) : Type 0 where
+-- a held message's letter fits, and so does its tag
+pub record HeldLetter (ws : List ℕ) (l : Letter) (tag : ℕ) : Type 0 where
   pub fit : fits ws l ≡ true
-  pub one : single (l .to) ≡ true
-  pub here : memberOf (l .to) i ≡ true
   pub small : tag ≤ 65535
 
-pub held-letter : (ws : List ℕ) (i k : ℕ) → heldFits ws i k ≡ true → HeldLetter ws i (letterAt ws (heldBlock i k)) (tagAt ws (heldBlock i k))
+pub held-letter : (ws : List ℕ) (i k : ℕ) → heldFits ws i k ≡ true → HeldLetter ws (letterAt ws (heldBlock i k)) (tagAt ws (heldBlock i k))
 unfolding heldFits
-held-letter ws i k e =
-    let u = and-three (blockFits ws (heldBlock i k)) (single (letterAt ws (heldBlock i k) .to)) (memberOf (letterAt ws (heldBlock i k) .to) i) e in
-    record { fit = block-letter ws (heldBlock i k) (u .0); one = u .1; here = u .2; small = block-tag ws (heldBlock i k) (u .0) }
+held-letter ws i k e = record { fit = block-letter ws ws (heldBlock i k) e; small = block-tag ws ws (heldBlock i k) e }
 
 -- after the first k held messages
 pub record SweptFit (ws : List ℕ) (i : ℕ) (s : Sweep) : Type 0 where
@@ -56,7 +50,7 @@ module _ (ws : List ℕ) (i n : ℕ) (card : i < 8) (k : ℕ) (s : Sweep) (h : k
   abbrev l : Letter
   l = letterAt (s .words) (heldBlock i k)
 
-  letter : HeldLetter ws i l (y ws i n card k s h room v .mark)
+  letter : HeldLetter ws l (y ws i n card k s h room v .mark)
   letter =
       let e = at-k ws i n card k s h room v in
       let p : l ≡ letterAt ws (heldBlock i k) = ap (λ (z : Tagged Letter). z .msg) e in
@@ -72,7 +66,7 @@ module _ (ws : List ℕ) (i n : ℕ) (card : i < 8) (k : ℕ) (s : Sweep) (h : k
         let y : SameSizes us ws = sizes-trans us (s .words) ws z (f .sizes) in
         rw (joins-is ws i n card k s h room v e) (record {
           sizes = y;
-          box = push-box (s .words) i l (v .long) card r (fits-same us ws y l ∙ letter .fit) (letter .here) (f .box);
+          box = push-box (s .words) i l (v .long) card r (fits-same us ws y l ∙ letter .fit) (f .box);
           held = held-same us (s .words) i (s .kept) z (λ a p q. pushed-word (s .words) i l (v .long) card r a (omega arith) (λ b w. omega arith)) (f .held);
         })
 
@@ -91,7 +85,7 @@ module _ (ws : List ℕ) (i n : ℕ) (card : i < 8) (k : ℕ) (s : Sweep) (h : k
           sizes = y;
           box = box-same us (s .words) i z (o (headWord i) (λ q r. omega arith)) (o (countWord i) (λ q r. omega arith)) (λ a p q. o a (λ b r. omega arith)) (f .box);
           held = held-put us (s .words) i (s .kept) l t z (omega arith) card (v .long) (λ a p q. o a (λ b r. omega arith)) (λ b r. refl)
-              (letter .small) (fits-same us ws y l ∙ letter .fit) (letter .one) (letter .here) (f .held);
+              (letter .small) (fits-same us ws y l ∙ letter .fit) (f .held);
         })
 
   fit-step : SweptFit ws i (swept i n k s)

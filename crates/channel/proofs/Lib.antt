@@ -23,6 +23,8 @@ pub mod SizedReceive
 pub mod SizedTakeBroadcast
 pub mod SizedTakeSingle
 pub mod SizedDispatch
+-- A memory is ill sized exactly if one of the listed kinds holds
+pub mod IllSized
 -- Any list of calls on a memory
 pub mod CallLaws
 pub mod RunLaw

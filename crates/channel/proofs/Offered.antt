@@ -1,37 +1,36 @@
 -- What a layer above may rely on, in the words of the definitions that the functions' contracts cite. With OfferedCalls, the only laws of
 -- this crate that it may cite; so laws from inside are offered here by name.
-use Prim.Native.Nat.{ℕ, zero, suc, _+_, _<_, _≤_, _^_}
+use Prim.Native.Nat.{ℕ, zero, suc, _+_, _<_, _≤_}
 use mathlib.Core.Path.{_≡_, refl, _∙_}
 use mathlib.Core.Bool.{true}
 use mathlib.Core.List.{List, [], _∷_}
 use mathlib.Core.Option.{some}
 use native.Mathlib.Omega.{arith}
-use borrow.Author.Tests.{ltb-true, leb-true, lt-ltb, le-leb}
-use lib.Dec.{ltb, leb}
+use borrow.Author.Tests.{lt-ltb}
+use lib.Dec.{leb}
 use lib.ListN.{length}
-use Rattle.lists.specs.Tests.{and-fst, and-snd, and-intro}
-use Rattle.lists.specs.Conjunctions.{and-five}
+use Rattle.lists.specs.Tests.{and-intro}
 use Rattle.lists.specs.Listings.{listing, listing-zero, listing-cons, listing-length}
 use Rattle.lists.specs.Places.{nth}
 use Rattle.names.specs.declared.Card.{Card}
 use Rattle.names.specs.declared.Letter.{Letter}
-use Rattle.names.specs.CardSet.{memberOf}
-use Rattle.names.specs.Letters.{letterAt, known}
+use Rattle.names.specs.Letters.{letterAt}
 use Rattle.automaton.specs.State.{ChannelState}
-use Rattle.channel.specs.Layout.{broadcastBlock, cardsOf, tasksOf, registersOf, madeOf, takenOf, countOf, placeOf}
-use Rattle.channel.specs.Letters.{addressed, fits}
+use Rattle.channel.specs.Layout.{broadcastBlock, cardsOf, registersOf, madeOf, takenOf, countOf, placeOf}
+use Rattle.channel.specs.Letters.{fits}
 use Rattle.channel.specs.Begin.{sizesFit, beginMemory}
 use Rattle.channel.specs.Inbox.{receiveAnswer}
-use Rattle.channel.specs.Sized.{inboxFits, blockFits, wellSized}
+use Rattle.channel.specs.Sized.{inboxFits, wellSized}
 use Rattle.channel.specs.Shows.{inboxOf, heldOf, flightOf, Shows}
 use Rattle.channel.specs.MemoryCalls.{SameSizes, memoryAfter, handedUp}
 use Rattle.channel.proofs.SizedFacts.{registers-words}
 pub use Rattle.channel.proofs.SizedFacts.{cards-most, tasks-most}
 use Rattle.channel.proofs.WellSizedParts.{Fit, fit-of}
-pub use Rattle.channel.proofs.WellSizedParts.{same-cards, same-tasks, fits-same}
+pub use Rattle.channel.proofs.WellSizedParts.{same-cards, same-tasks, fits-same, block-words, block-sizes}
 pub use Rattle.channel.proofs.Destinations.{member-present}
 use Rattle.channel.proofs.FitKept.{sized-of}
-use Rattle.channel.proofs.FitQueues.{block-letter}
+pub use Rattle.channel.proofs.FitQueues.{Fits, fits-is, fits-of, block-letter, put-fits}
+pub use Rattle.channel.proofs.IllSized.{block-exact, channel-exact}
 use Rattle.channel.proofs.Receiving.{receive-answer}
 use Rattle.channel.proofs.ChannelLaw.{channel-follows}
 pub use Rattle.channel.proofs.ChannelLaw.{begin-follows}
@@ -48,36 +47,6 @@ pub sizes-fit : (cards tasks registers : ℕ) → leb 1 cards ≡ true → leb c
     → leb registers 32 ≡ true → sizesFit cards tasks registers ≡ true
 unfolding sizesFit
 sizes-fit cards tasks registers a b c d e f = and-intro (and-intro (and-intro (and-intro (and-intro a b) c) d) e) f
-
--- ---- letters that fit
-
-pub record Fits (ws : List ℕ) (l : Letter) : Type 0 where
-  pub task : l .message .task .0 < tasksOf ws
-  pub register : l .message .register .0 < registersOf ws
-  pub body : known (l .message .body) ≡ true
-  pub sender : l .from .0 < cardsOf ws
-  pub someone : 1 ≤ l .to
-  pub present : l .to < 2 ^ cardsOf ws
-
-pub fits-is : (ws : List ℕ) (l : Letter) → fits ws l ≡ true → Fits ws l
-unfolding fits addressed
-fits-is ws l e =
-    let u = and-five (ltb (l .message .task .0) (tasksOf ws)) (ltb (l .message .register .0) (registersOf ws)) (known (l .message .body)) (ltb (l .from .0) (cardsOf ws))
-    (addressed ws (l .to)) e in
-    record {
-      task = ltb-true _ _ (u .0);
-      register = ltb-true _ _ (u .1);
-      body = u .2;
-      sender = ltb-true _ _ (u .3);
-      someone = leb-true _ _ (and-fst (leb 1 (l .to)) (ltb (l .to) (2 ^ cardsOf ws)) (u .4));
-      present = ltb-true _ _ (and-snd (leb 1 (l .to)) (ltb (l .to) (2 ^ cardsOf ws)) (u .4));
-    }
-
-pub fits-of : (ws : List ℕ) (l : Letter) → Fits ws l → fits ws l ≡ true
-unfolding fits addressed
-fits-of ws l f =
-    and-intro (and-intro (and-intro (and-intro (lt-ltb _ _ (f .task)) (lt-ltb _ _ (f .register))) (f .body)) (lt-ltb _ _ (f .sender)))
-    (and-intro (le-leb _ _ (f .someone)) (lt-ltb _ _ (f .present)))
 
 -- ---- a well-sized memory
 
@@ -102,8 +71,7 @@ module _ (ws : List ℕ) (w : ChannelState Letter) (long : length ws ≡ 4808) (
       go (suc n) c =
           let s : inboxOf ws i ≡ letterAt ws (placeOf ws i 0) ∷ listing (λ k. letterAt ws (placeOf ws i (suc k))) n = rw c (listing-cons _ n) in
           let q : l ≡ letterAt ws (placeOf ws i 0) = cc (v .inbox= i h, e, s) in
-          rw q (block-letter ws (placeOf ws i 0)
-          (and-fst (blockFits ws (placeOf ws i 0)) (memberOf (letterAt ws (placeOf ws i 0) .to) i) (f .card i h .inbox 0 (omega arith))))
+          rw q (block-letter ws ws (placeOf ws i 0) (f .card i h .inbox 0 (omega arith)))
 
 -- ---- any memory shows a state
 

@@ -10,7 +10,7 @@ use borrow.Author.Tests.{ltb-true, leb-true, le-leb}
 use lib.Dec.{ltb, leb}
 use lib.ListN.{length, getD, set, length-set}
 use lib.Seq.{getD-set-same, getD-set-other}
-use Rattle.lists.specs.Tests.{eqb-refl, and-fst, and-snd, and-intro}
+use Rattle.lists.specs.Tests.{and-fst, and-snd, and-intro}
 use Rattle.lists.specs.Conjunctions.{and-five}
 use Rattle.lists.specs.Every.{each-at}
 use Rattle.names.specs.declared.Card.{Card}
@@ -76,10 +76,10 @@ module _ (ws : List ℕ) (long : length ws ≡ 4808) (f : Fit ws) (l : Letter) (
       go (yes e) =
           let w : flightBlock t * 8 + 8 ≤ length ws = omega (arith, t16) in
           let fu : fits us l ≡ true = fits-same us ws sizes l ∙ g in
-          let y = put-letter us ws (flightBlock t) l tag fu w (λ k r. refl) in
-          let b = put-fits us ws (flightBlock t) l tag fu w (λ k r. refl) small in
+          let y = put-letter us us ws (flightBlock t) l tag fu w (λ k r. refl) in
+          let b = put-fits us us ws (flightBlock t) l tag fu w (λ k r. refl) small in
           let o = single-of (l .to) alone in
-          rw e (or-intro (noFlight us t) (and-intro (and-intro b (rw y (eqb-refl t))) (rw y o)))
+          rw e (or-intro (noFlight us t) (and-intro b (rw y o)))
       go (no n) = flight-same us ws sizes d (λ a p q. word a (λ k r. omega arith)) ∙ f .flight d h
 
   pub flown-fit : Kept us ws
@@ -155,7 +155,7 @@ module _ (ws : List ℕ) (long : length ws ≡ 4808) (f : Fit ws) (l : Letter) (
       let fu : fits cs l ≡ true = fits-same cs ws csizes l ∙ g in
       let v : (k : ℕ) → k < 8 → getD cs (slot * 8 + k) 0 ≡ getD vs (slot * 8 + k) 0 = λ k r. getD-set-other vs 3 (slot * 8 + k) n 0 (omega arith) in
       let e : n - 0 ≡ n = omega arith in
-      rw e (and-intro (put-fits cs ws slot l n fu w v (omega arith)) (rw (put-letter cs ws slot l n fu w v) many))
+      rw e (and-intro (put-fits cs cs ws slot l n fu w v (omega arith)) (rw (put-letter cs cs ws slot l n fu w v) many))
   recent-fit (suc k) p h =
       let e : n - suc k ≡ madeOf ws - k = omega arith in
       rw e (broadcast-same cs ws csizes (madeOf ws - k) (λ a u v. cword a (omega arith) (λ b r. omega arith)) ∙ f .recent k (omega arith) (omega arith))

@@ -8,7 +8,7 @@ use native.Mathlib.Omega.{arith}
 use lib.ListN.{length, getD, length-append}
 use Rattle.lists.specs.Tests.{and-fst}
 use Rattle.lists.specs.Queues.{push}
-use Rattle.names.specs.CardSet.{memberOf, several}
+use Rattle.names.specs.CardSet.{several}
 use Rattle.names.specs.declared.Card.{Card}
 use Rattle.names.specs.declared.Letter.{Letter}
 use Rattle.automaton.specs.State.{released}
@@ -38,7 +38,7 @@ next-fits ws f i c more =
     let near : madeOf ws ≤ takenOf ws i + 64 = x .near in
     let e : madeOf ws - (madeOf ws - (takenOf ws i + 1)) ≡ takenOf ws i + 1 = omega arith in
     let b = rw e at (f .recent (madeOf ws - (takenOf ws i + 1)) (omega arith) (omega arith)) in
-    block-letter ws (broadcastBlock (takenOf ws i + 1)) (and-fst (blockFits ws (broadcastBlock (takenOf ws i + 1))) (several (nextLetter ws i .to)) b)
+    block-letter ws ws (broadcastBlock (takenOf ws i + 1)) (and-fst (blockFits ws ws (broadcastBlock (takenOf ws i + 1))) (several (nextLetter ws i .to)) b)
 
 module _ (ws : List ℕ) (i n : ℕ) (l : Letter) (card : i < 8) (whole : length ws ≡ 4808) (small : heldCountOf ws i ≤ 16)
     (b : BoxFit ws i) (h : HeldFit ws i (heldCountOf ws i)) (f : fits ws l ≡ true) where
@@ -76,10 +76,10 @@ module _ (ws : List ℕ) (i n : ℕ) (l : Letter) (card : i < 8) (whole : length
         head = release-low us i n card long g r (headWord i) (omega arith) ∙ head;
       }
 
-  after : (there : Bool) → (there ≡ true → memberOf (l .to) i ≡ true) → countOf ws i + length (released n (heldOf ws i)) + cond there 1 0 ≤ 48
+  after : (there : Bool) → countOf ws i + length (released n (heldOf ws i)) + cond there 1 0 ≤ 48
       → After (joined ws i n l there)
   unfolding joined
-  after true d room =
+  after true room =
       let r = one-room ws i n l card whole small (omega arith) in
       let long = one-long ws i n l card whole small in
       let p = pushed-word vs i l long card r in
@@ -91,9 +91,9 @@ module _ (ws : List ℕ) (i n : ℕ) (l : Letter) (card : i < 8) (whole : length
       let few : heldCountOf vs i ≤ 16 = omega (arith, word (heldWord i) (omega arith)) in
       let k : heldCountOf (pushed vs i l) i ≡ heldCountOf vs i = p (heldWord i) (omega arith) (λ q w. omega arith) in
       finish (pushed vs i l) (g .long) (g .few) (g .held) (pushed-head vs i l long card r ∙ word (headWord i) (omega arith)) (omega arith)
-      (push-box vs i l long card r (fits-same (pushed vs i l) ws y l ∙ f) (d refl) one-box)
+      (push-box vs i l long card r (fits-same (pushed vs i l) ws y l ∙ f) one-box)
       (rw k (held-same (pushed vs i l) vs i (heldCountOf vs i) z (λ a u v. p a (omega arith) (λ q w. omega arith)) one-fit))
-  after false d room =
+  after false room =
       let g = begun-out ws i n l card whole small in
       let e = word (countWord i) (omega arith) in
       finish vs (g .long) (g .few) (g .held) (word (headWord i) (omega arith)) (omega arith) one-box one-fit
@@ -112,7 +112,7 @@ module _ (ws : List ℕ) (long : length ws ≡ 4808) (f : Fit ws) (card : Card) 
       let near : madeOf ws ≤ takenOf ws i + 64 = x .near in
       let more : takenOf ws i < madeOf ws = k .more in
       let j = joined-shows ws i n l c8 long (x .held) (nextThere ws i) (k .room) in
-      let g = after ws i n l c8 long (x .held) (x .inbox) (x .helds) (next-fits ws f i (k .there) (k .more)) (nextThere ws i) (λ e. e) (k .room) in
+      let g = after ws i n l c8 long (x .held) (x .inbox) (x .helds) (next-fits ws f i (k .there) (k .more)) (nextThere ws i) (k .room) in
       let t : takenOf us i ≡ takenOf ws i + 1 = j .taken in
       let c : countOf us i ≡ countOf ws i + cond (nextThere ws i) 1 0 + length (released n (heldOf ws i)) =
       sym (inbox-length us i) ∙ ap length (j .inbox) ∙ length-append (push (nextThere ws i) l (inboxOf ws i)) (released n (heldOf ws i))

@@ -110,7 +110,7 @@ module _ (ws : List ℕ) (long : length ws ≡ 4808) (f : Fit ws) (t : ℕ) (k :
           head = rw (pushed-head us i l whole c8 r) (x .head);
           count = rw (pushed-count us i l whole c8 r) (omega arith);
           held = rw ed few;
-          inbox = push-box us i l whole c8 r (fits-same (pushed us i l) ws y l ∙ letter .fit) (letter .there) (x .inbox);
+          inbox = push-box us i l whole c8 r (fits-same (pushed us i l) ws y l ∙ letter .fit) (x .inbox);
           helds = rw ed (held-same (pushed us i l) us i (heldCountOf us i) z (λ a u v. p a (omega arith) (λ q w. omega arith)) (x .helds));
         });
         long = o .long;
@@ -141,7 +141,7 @@ module _ (ws : List ℕ) (long : length ws ≡ 4808) (f : Fit ws) (t : ℕ) (k :
           held = rw ed (omega arith);
           inbox = box-same vs us i z eh ec (λ a u v. p a (omega arith) (λ q w. omega arith)) (x .inbox);
           helds = rw (ed, add-one (heldCountOf us i)) (held-put vs us i (heldCountOf us i) l tag z r c8 whole (λ a u v. p a (omega arith) (λ q w. omega arith))
-              (more-block us i l tag c8 whole r) (letter .small) (fits-same vs ws y l ∙ letter .fit) (letter .one) (letter .there) (x .helds));
+              (more-block us i l tag c8 whole r) (letter .small) (fits-same vs ws y l ∙ letter .fit) (x .helds));
         });
         long = o .long;
         sizes = y;

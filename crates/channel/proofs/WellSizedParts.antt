@@ -1,6 +1,6 @@
 -- Well-sizedness, place by place, and where only some words change.
 use Prim.Native.Nat.{ℕ, _+_, _-_, _*_, _<_, _≤_, min}
-use mathlib.Core.Path.{_≡_, ap}
+use mathlib.Core.Path.{_≡_, _∙_}
 use mathlib.Core.Bool.{true}
 use mathlib.Core.List.{List}
 use native.Mathlib.Omega.{arith}
@@ -88,6 +88,15 @@ of-fit ws f =
 
 -- ---- words that agree
 
+-- of a block
+pub block-words : (cs us ws : List ℕ) (b : ℕ) → ((k : ℕ) → k < 8 → getD us (b * 8 + k) 0 ≡ getD ws (b * 8 + k) 0) → blockFits cs us b ≡ blockFits cs ws b
+unfolding blockFits
+block-words cs us ws b e =
+    let z : b * 8 + 0 ≡ b * 8 = omega arith in
+    let k : kindAt us b ≡ kindAt ws b = rw z at (e 0 (omega arith)) in
+    let t : tagAt us b ≡ tagAt ws b = e 7 (omega arith) in
+    rw (k, t, letter-cong us ws b e)
+
 module _ (us ws : List ℕ) (s : SameSizes us ws) where
   pub same-cards : cardsOf us ≡ cardsOf ws
   same-cards = cards-words us ws (s .cards)
@@ -99,6 +108,11 @@ module _ (us ws : List ℕ) (s : SameSizes us ws) where
   unfolding fits addressed
   fits-same l = rw (same-cards, same-tasks, registers-words us ws (s .registers))
 
+  -- where only the sizes' memory is another
+  pub block-sizes : (vs : List ℕ) (b : ℕ) → blockFits us vs b ≡ blockFits ws vs b
+  unfolding blockFits
+  block-sizes vs b = rw (fits-same (letterAt vs b))
+
   -- block b
   module _ (b : ℕ) (e : (k : ℕ) → k < 8 → getD us (b * 8 + k) 0 ≡ getD ws (b * 8 + k) 0) where
     pub letter= : letterAt us b ≡ letterAt ws b
@@ -107,15 +121,8 @@ module _ (us ws : List ℕ) (s : SameSizes us ws) where
     pub kind= : kindAt us b ≡ kindAt ws b
     kind= = let z : b * 8 + 0 ≡ b * 8 = omega arith in rw z at (e 0 (omega arith))
 
-    tag= : tagAt us b ≡ tagAt ws b
-    tag= = e 7 (omega arith)
-
-    pub block-same : blockFits us b ≡ blockFits ws b
-    unfolding blockFits
-    block-same = rw (kind=, tag=, letter=, fits-same (letterAt ws b))
-
-    pub to-same : letterAt us b .to ≡ letterAt ws b .to
-    to-same = ap (λ (l : Letter). l .to) letter=
+    pub block-same : blockFits us us b ≡ blockFits ws ws b
+    block-same = block-words us us ws b e ∙ block-sizes ws b
 
   pub flight-same : (t : ℕ) → ((a : ℕ) → flightBlock t * 8 ≤ a → a < flightBlock (t + 1) * 8 → getD us a 0 ≡ getD ws a 0) → flightFits us t ≡ flightFits ws t
   unfolding flightFits noFlight
@@ -146,9 +153,9 @@ module _ (us ws : List ℕ) (s : SameSizes us ws) where
         held = rw ed (f .held);
         inbox = λ k h.
             let g : (q : ℕ) → q < 8 → getD us (placeOf ws j k * 8 + q) 0 ≡ getD ws (placeOf ws j k * 8 + q) 0 = λ q r. e _ (omega arith) (omega arith) in
-            rw (eh, block-same (placeOf ws j k) g, letter= (placeOf ws j k) g) (f .inbox k (rw (← ec) h));
+            rw (eh, block-same (placeOf ws j k) g) (f .inbox k (rw (← ec) h));
         helds = λ k h.
             let d : k < 16 = omega (arith, f .held) in
             let g : (q : ℕ) → q < 8 → getD us (heldBlock j k * 8 + q) 0 ≡ getD ws (heldBlock j k * 8 + q) 0 = λ q r. e _ (omega arith) (omega arith) in
-            rw (block-same (heldBlock j k) g, letter= (heldBlock j k) g) (f .helds k (rw (← ed) h));
+            rw (block-same (heldBlock j k) g) (f .helds k (rw (← ed) h));
       }

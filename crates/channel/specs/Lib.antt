@@ -8,6 +8,7 @@ pub mod TakeBroadcast
 pub mod TakeSingle
 pub mod Dispatch
 pub mod Sized
+pub mod IllSized
 -- What a memory shows of the idealised state, and what is claimed of any list of calls on it
 pub mod Shows
 pub mod MemoryCalls

@@ -1,42 +1,43 @@
 -- A well-sized memory: what a step must find, else it is refused with 6 ("an ill-sized state: a size, number or queue length past its
 -- limit .. A home, destination or message field naming an absent card, task or register, or an unknown function, is past its limit too. So
 -- is a card's number of broadcasts taken when it is above the number made or more than 64 below it"). The parts of absent cards and tasks
--- are not looked at. No fault: more than 32 broadcasts in an inbox of at most 48, and a tag above the number made but not past its limit.
+-- are not looked at. No fault, since 01 lists none of them: more than 32 broadcasts in an inbox of at most 48; a tag above the number made but
+-- not past its limit; a message in the inbox of a card, or held for one, that is no destination of it; another task's message in a slot.
 use Prim.Native.Nat.{ℕ, _+_, _-_, min}
 use mathlib.Core.Bool.{Bool, _&&_, _||_}
 use mathlib.Core.List.{List}
-use lib.Dec.{eqb, ltb, leb}
+use lib.Dec.{ltb, leb}
 use lib.ListN.{getD}
 use Rattle.lists.specs.Every.{each}
-use Rattle.names.specs.CardSet.{memberOf, several, single}
+use Rattle.names.specs.CardSet.{several, single}
 use Rattle.channel.specs.Layout.{cardsWord, tasksWord, registersWord, cardsOf, tasksOf, madeOf, takenOf, headOf, countOf, heldCountOf, placeOf, heldBlock, flightBlock, broadcastBlock}
 use Rattle.names.specs.Letters.{letterAt, kindAt, tagAt}
 use Rattle.channel.specs.Letters.{fits}
 use Rattle.channel.specs.Begin.{sizesFit}
 use Rattle.channel.specs.TakeSingle.{noFlight}
 
--- block b has a message, and no field of it is past its limit; a tag is a broadcast number, and "broadcast numbers .. end at 65,535"
-unfoldable pub blockFits : List ℕ → ℕ → Bool
-blockFits ws b = leb 1 (kindAt ws b) && leb (kindAt ws b) 4 && leb (tagAt ws b) 65535 && fits ws (letterAt ws b)
+-- block b of memory ws has a message, and no field of it is past its limit, which the sizes of the channel's memory cs give; a tag is a
+-- broadcast number, and "broadcast numbers .. end at 65,535". The rule for every block, in whichever memory it lies.
+unfoldable pub blockFits : List ℕ → List ℕ → ℕ → Bool
+blockFits cs ws b = leb 1 (kindAt ws b) && leb (kindAt ws b) 4 && leb (tagAt ws b) 65535 && fits cs (letterAt ws b)
 
--- place k of card i's inbox: "It joins the inbox if the card is a destination"
+-- place k of card i's inbox
 unfoldable pub inboxFits : List ℕ → ℕ → ℕ → Bool
-inboxFits ws i k = blockFits ws (placeOf ws i k) && memberOf (letterAt ws (placeOf ws i k) .to) i
+inboxFits ws i k = blockFits ws ws (placeOf ws i k)
 
--- place k of what is held for card i: "held single messages", each at "its destination"
+-- place k of what is held for card i
 unfoldable pub heldFits : List ℕ → ℕ → ℕ → Bool
-heldFits ws i k =
-    blockFits ws (heldBlock i k) && single (letterAt ws (heldBlock i k) .to) && memberOf (letterAt ws (heldBlock i k) .to) i
+heldFits ws i k = blockFits ws ws (heldBlock i k)
 
--- the flight slot of task t: empty, or "the named task's message in flight", with "one destination"
+-- the flight slot of task t: empty, or a message with exactly one destination. Beyond 01's list: step 8 says that the message "reaches its
+-- destination", and without exactly one no move is defined.
 unfoldable pub flightFits : List ℕ → ℕ → Bool
-flightFits ws t =
-    noFlight ws t
-    || (blockFits ws (flightBlock t) && eqb (letterAt ws (flightBlock t) .message .task .0) t && single (letterAt ws (flightBlock t) .to))
+flightFits ws t = noFlight ws t || (blockFits ws ws (flightBlock t) && single (letterAt ws (flightBlock t) .to))
 
--- broadcast n, of "more than one destination"
+-- broadcast n, with more than one destination. Beyond 01's list: "More than one destination" is what makes a message a broadcast, so the
+-- number of destinations is how one is known.
 unfoldable pub broadcastFits : List ℕ → ℕ → Bool
-broadcastFits ws n = blockFits ws (broadcastBlock n) && several (letterAt ws (broadcastBlock n) .to)
+broadcastFits ws n = blockFits ws ws (broadcastBlock n) && several (letterAt ws (broadcastBlock n) .to)
 
 -- the counts of card i: "an inbox 48, and at most 16 messages are held"; taken neither above the number made nor more than 64 below it
 unfoldable pub countsFit : List ℕ → ℕ → Bool

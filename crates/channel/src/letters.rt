@@ -8,21 +8,13 @@ use super::layout::registers;
 use super::layout::tasks;
 use names::BroadcastNumber;
 use names::Letter;
-use names::Task;
 
-// The kind, the task, the destinations and the tag in a block.
+// The kind, the destinations and the tag in a block.
 pub(crate) fn kind_at(memory: &[u32; 4808], block: usize) -> u32
     requires { ⌜ block < 601 ⌝ }
     ensures { λ r. ⌜ r ≡ kindAt (now (memory .entry)) block ⌝ }
 {
     memory[block * 8]
-}
-
-pub(crate) fn task_at(memory: &[u32; 4808], block: usize) -> Task
-    requires { ⌜ block < 601 ⌝ }
-    ensures { λ r. ⌜ r ≡ letterAt (now (memory .entry)) block .message .task ⌝ }
-{
-    Task(memory[block * 8 + 1])
 }
 
 pub(crate) fn to_at(memory: &[u32; 4808], block: usize) -> u32

@@ -25,7 +25,6 @@ use super::letters::fits;
 use super::letters::kind_at;
 use super::letters::load;
 use super::letters::tag_at;
-use super::letters::task_at;
 use super::letters::to_at;
 use super::single::no_flight;
 use names::BroadcastNumber;
@@ -36,7 +35,7 @@ use names::wide;
 // Whether a block has a message with no field past its limit, its tag among them.
 fn block_fits(memory: &[u32; 4808], block: usize) -> bool
     requires { ⌜ block < 601 ⌝ }
-    ensures { λ r. ⌜ r ≡ blockFits (now (memory .entry)) block ⌝ }
+    ensures { λ r. ⌜ r ≡ blockFits (now (memory .entry)) (now (memory .entry)) block ⌝ }
 {
     let kind = kind_at(memory, block);
     let tag = tag_at(memory, block);
@@ -49,9 +48,7 @@ fn inbox_fits(memory: &[u32; 4808], card: Card, k: u32) -> bool
     requires { ⌜ (card .0 < 8) × (k < 48) ⌝ }
     ensures { λ r. ⌜ r ≡ inboxFits (now (memory .entry)) (card .0) k ⌝ }
 {
-    let block = place_of(memory, card, k);
-    let to = to_at(memory, block);
-    block_fits(memory, block) & names::member(to, card)
+    block_fits(memory, place_of(memory, card, k))
 }
 
 // Whether place k of what is held for a card is in order.
@@ -59,9 +56,7 @@ fn held_fits(memory: &[u32; 4808], card: Card, k: usize) -> bool
     requires { ⌜ (card .0 < 8) × (k < 16) ⌝ }
     ensures { λ r. ⌜ r ≡ heldFits (now (memory .entry)) (card .0) k ⌝ }
 {
-    let block = held_block(card, k);
-    let to = to_at(memory, block);
-    block_fits(memory, block) & names::single(to) & names::member(to, card)
+    block_fits(memory, held_block(card, k))
 }
 
 // Whether a task's flight slot is in order.
@@ -70,9 +65,8 @@ fn flight_fits(memory: &[u32; 4808], task: Task) -> bool
     ensures { λ r. ⌜ r ≡ flightFits (now (memory .entry)) (task .0) ⌝ }
 {
     let block = flight_block(task);
-    let named = task_at(memory, block);
     let to = to_at(memory, block);
-    no_flight(memory, task) | (block_fits(memory, block) & (named.0 == task.0) & names::single(to))
+    no_flight(memory, task) | (block_fits(memory, block) & names::single(to))
 }
 
 // Whether a broadcast is in order.

@@ -79,7 +79,7 @@ module _ {U : Values} (P : Placement) (ok : placementRefusal P ≡ 0) where
       go true (there y) = y
       go false y = y
 
-  trace-reports : (k : ℕ) (ds : List (Action U)) → Any (Reports k) (map upper (trace P ds)) → Any (IsReport k) ds
+  pub trace-reports : (k : ℕ) (ds : List (Action U)) → Any (Reports k) (map upper (trace P ds)) → Any (IsReport k) ds
   trace-reports k (request o ∷ ds) (there h) = there (trace-reports k ds h)
   trace-reports k (perform c j ∷ ds) (there h) = there (trace-reports k ds h)
   trace-reports k (send c j i ∷ ds) (there h) = there (trace-reports k ds h)

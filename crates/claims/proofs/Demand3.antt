@@ -92,7 +92,7 @@ module _ (P : Placement) (ok : placementRefusal P ≡ 0) where
       go (inr y) = inr (record { before = s ∷ y .before; it = y .it; after = y .after; whole = ap (λ r. s ∷ r) (y .whole); task = y .task; taken = y .taken })
 
   module _ (steps : List RawStep) where
-    reported-at : (k : ℕ) → Any (Reports k) (paper P steps) → (n : ℕ) × ReportedAt P steps k n
+    pub reported-at : (k : ℕ) → Any (Reports k) (paper P steps) → (n : ℕ) × ReportedAt P steps k n
     reported-at k h = go (find [] steps k h)
       where
         go : Any (Reports k) [] ⊎ Found [] steps k → (n : ℕ) × ReportedAt P steps k n

@@ -37,11 +37,11 @@ applied-are : appliedOn tiny k2 0 ≡ 0 ∷ []
 unfolding decode known unnamedZero taskThere registerThere cardThere functionThere namesTask namesCard namesRegister namesChosen namesFunction operand commandOf each memberOf several single sizeOf soleOf justOf total turns updated sumOf largerOf
 applied-are = refl
 
-reported-0 : ReportedAt tiny k2 0 2
+pub reported-0 : ReportedAt tiny k2 0 2
 unfolding decode known unnamedZero taskThere registerThere cardThere functionThere namesTask namesCard namesRegister namesChosen namesFunction operand commandOf each memberOf several single sizeOf soleOf justOf total turns updated sumOf largerOf
 reported-0 = record { before = take 2 k2; it = step 10 (0 ∷ []); after = drop 3 k2; whole = refl; place= = refl; task = 0; taken = refl }
 
-reported-1 : ReportedAt tiny k2 1 5
+pub reported-1 : ReportedAt tiny k2 1 5
 unfolding decode known unnamedZero taskThere registerThere cardThere functionThere namesTask namesCard namesRegister namesChosen namesFunction operand commandOf each memberOf several single sizeOf soleOf justOf total turns updated sumOf largerOf
 reported-1 = record { before = take 5 k2; it = step 10 (0 ∷ []); after = []; whole = refl; place= = refl; task = 0; taken = refl }
 
@@ -66,7 +66,7 @@ one-task : (op tiny k2 0) .task ≡ (op tiny k2 1) .task
 unfolding decode known unnamedZero taskThere registerThere cardThere functionThere namesTask namesCard namesRegister namesChosen namesFunction operand commandOf each memberOf several single sizeOf soleOf justOf total turns updated sumOf largerOf
 one-task = refl
 
-reads-zero : ((op tiny k2 1) .upd ≡ false) × ((op tiny k2 1) .reg ≡ 0)
+pub reads-zero : ((op tiny k2 1) .upd ≡ false) × ((op tiny k2 1) .reg ≡ 0)
 unfolding decode known unnamedZero taskThere registerThere cardThere functionThere namesTask namesCard namesRegister namesChosen namesFunction operand commandOf each memberOf several single sizeOf soleOf justOf total turns updated sumOf largerOf
 reads-zero = (refl, refl)
 

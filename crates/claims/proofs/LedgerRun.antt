@@ -16,13 +16,13 @@ use Rattle.automaton.specs.Trace.{joins}
 use Rattle.lists.specs.Histories.{Any, any-map, now, there}
 use Rattle.lists.specs.HistoryMaps.{any-into, any-out}
 use Rattle.names.specs.Placement.{Placement, placementRefusal}
-use Rattle.registers.proofs.Finished.{Fin, answered, live-of, local, own}
-use Rattle.registers.proofs.Messages.{Sent, delivered-ask, delivered-reply, dispatched}
+use Rattle.registers.proofs.Finished.{fin-requested, live-of}
+use Rattle.registers.proofs.Messages.{Sent, delivered-ask, dispatched}
 use Rattle.registers.proofs.Ordered.{Ordered, ordered}
 use Rattle.registers.proofs.Requests.{Asked, base-of, below-count}
 use Rattle.registers.proofs.Statuses.{Asks, Ended}
 use Rattle.registers.specs.Events.{Posts, Requests}
-use Rattle.registers.specs.Layer.{Values, Event, Msg, Valid, World, ask, asking, base, done, next, opOf, reply, run, site}
+use Rattle.registers.specs.Layer.{Values, Event, Msg, Valid, World, ask, asking, done, next, opOf, reply, run, site}
 use Rattle.claims.proofs.Executions.{Enabled, Holds, joined}
 use Rattle.claims.proofs.Joint.{Joint, JointExecution, both, join, lower, mcasts-dispatches, net, promised, upper}
 use Rattle.claims.proofs.SameWorld.{Same, dest-same}
@@ -120,12 +120,7 @@ module _ {U : Values} (P : Placement) (ok : placementRefusal P ≡ 0) where
       flight-dest c x e = dest-same P (b .ops) opsF (b .chosen) atF (x .msg) (same-mcast (x .msg) (s .channel= .flies c x e .0 .mcast-it))
 
       pub ended-requested : {k c : ℕ} {w : U .Val} → b .layer .status c ≡ done k w → Any (Requests k) (map upper E)
-      ended-requested {k} {c} e = go (live-of WF rk (map upper E) valid ord .ended c k (subst (λ t. Ended t k) (sym (ap (λ u. u .status c) (sym (s .state=)) ∙ e)) refl))
-        where
-          go : Fin WF (map upper E) k → Any (Requests k) (map upper E)
-          go (local x) = base-of WF (map upper E) valid .performed k x
-          go (own u x) = base-of WF (map upper E) valid .posted k (delivered-ask WF rk (map upper E) valid ord k (base WF k) x .0)
-          go (answered u x) = base-of WF (map upper E) valid .posted k (sent-posted (reply k u) (delivered-reply WF rk (map upper E) valid ord k u (base WF k) x .0))
+      ended-requested {k} {c} e = fin-requested WF rk (map upper E) valid ord (live-of WF rk (map upper E) valid ord .ended c k (subst (λ t. Ended t k) (sym (ap (λ u. u .status c) (sym (s .state=)) ∙ e)) refl))
 
       pub state-on : (e : Event U) → next WF (b .layer) e ≡ next WF (run WF (map upper E)) e
       state-on e = ap (λ u. next WF u e) (s .state=)

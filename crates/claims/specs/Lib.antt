@@ -10,4 +10,6 @@ pub mod Paper
 pub mod Numbers
 pub mod Limits
 pub mod SerialOrder
+pub mod Reports
 pub mod NamedRuns
+pub mod Fields

@@ -3,11 +3,11 @@
 ghost use mathlib.Core.Path.{_≡_};
 ghost use Rattle.names.specs.Placement.{placement, placementRefusal};
 ghost use Rattle.channel.specs.Layout.{madeOf, takenBy};
-ghost use Rattle.store.specs.Layout.{requestsOf};
-ghost use Rattle.store.specs.Start.{startRegisters, startChannel};
+ghost use Rattle.tables.specs.Layout.{requestsOf};
+ghost use Rattle.tables.specs.Start.{startRegisters, startChannel};
 ghost use Rattle.store.specs.Step.{stepped};
-ghost use Rattle.store.specs.Panel.{valueShown, doingShown};
-ghost use Rattle.store.specs.Doings.{doingKind, doingValue};
+ghost use Rattle.tables.specs.Panel.{valueShown, doingShown};
+ghost use Rattle.tables.specs.Doings.{doingKind, doingValue};
 ghost use Rattle.runfile.specs.RunFile.{fileRefusal};
 ghost use Rattle.runfile.specs.Run.{fileRegisters, fileChannel, answerRefusal, answerOutput};
 ghost use Rattle.firmware.specs.RunTally.{ranTally};

@@ -1,4 +1,4 @@
--- The named runs K1 to K10 (01, "Named runs"): the bytes of each file, and of its answer.
+-- The named runs K1 to K10 (01, "Named runs") and one more: the bytes of each file, and of its answer.
 -- A longer file has a line for its sizes, its homes, copies and primaries, its codes, and each argument; its answer one for N, the results
 -- and each value.
 use Prim.Native.Nat.{ℕ}
@@ -202,9 +202,70 @@ k10 = record {
       [];
 }
 
+-- Two messages of one tag, held at card 1 and released in the order in which they reached it, which is neither that of their sending nor
+-- that of their tasks: "in order of arrival" (01, step 7). Same cards as K9.
+abbrev pub two-held : NamedRun
+two-held = record {
+  file =
+      3 ∷ 2 ∷ 3 ∷ 23 ∷ 0 ∷
+      0 ∷ 1 ∷ 2 ∷ 7 ∷ 2 ∷ 0 ∷ 1 ∷
+      2 ∷ 5 ∷ 6 ∷ 7 ∷ 9 ∷ 7 ∷ 9 ∷ 10 ∷ 2 ∷ 5 ∷ 6 ∷ 2 ∷ 5 ∷ 6 ∷ 8 ∷ 8 ∷ 7 ∷ 9 ∷ 9 ∷ 9 ∷ 1 ∷ 3 ∷ 10 ∷
+      2 ∷ 0 ∷ 1 ∷ 0 ∷ 7 ∷ 0 ∷ 0 ∷ 0 ∷  -- task 2 sets register 0 to 7
+      2 ∷ 0 ∷ 0 ∷ 0 ∷ 0 ∷ 0 ∷ 0 ∷ 0 ∷  -- task 2 sends it to all holders
+      2 ∷ 0 ∷ 0 ∷ 0 ∷ 0 ∷ 0 ∷ 0 ∷ 0 ∷  -- card 2 dispatches it: broadcast 1
+      0 ∷ 0 ∷ 0 ∷ 0 ∷ 0 ∷ 0 ∷ 0 ∷ 0 ∷  -- card 0 takes it
+      0 ∷ 0 ∷ 0 ∷ 0 ∷ 0 ∷ 0 ∷ 0 ∷ 0 ∷  -- card 0 delivers it
+      2 ∷ 0 ∷ 0 ∷ 0 ∷ 0 ∷ 0 ∷ 0 ∷ 0 ∷  -- card 2 takes it
+      2 ∷ 0 ∷ 0 ∷ 0 ∷ 0 ∷ 0 ∷ 0 ∷ 0 ∷  -- card 2 delivers it
+      2 ∷ 0 ∷ 0 ∷ 0 ∷ 0 ∷ 0 ∷ 0 ∷ 0 ∷  -- task 2 reports
+      0 ∷ 1 ∷ 1 ∷ 0 ∷ 9 ∷ 0 ∷ 0 ∷ 0 ∷  -- task 0 sets register 1 to 9
+      0 ∷ 0 ∷ 0 ∷ 0 ∷ 0 ∷ 0 ∷ 0 ∷ 0 ∷  -- task 0 sends it to card 1
+      0 ∷ 0 ∷ 0 ∷ 0 ∷ 0 ∷ 0 ∷ 0 ∷ 0 ∷  -- card 0 dispatches it, tagged 1
+      2 ∷ 1 ∷ 1 ∷ 0 ∷ 4 ∷ 0 ∷ 0 ∷ 0 ∷  -- task 2 sets register 1 to 4
+      2 ∷ 0 ∷ 0 ∷ 0 ∷ 0 ∷ 0 ∷ 0 ∷ 0 ∷  -- task 2 sends it to card 1
+      2 ∷ 0 ∷ 0 ∷ 0 ∷ 0 ∷ 0 ∷ 0 ∷ 0 ∷  -- card 2 dispatches it, tagged 1
+      2 ∷ 0 ∷ 0 ∷ 0 ∷ 0 ∷ 0 ∷ 0 ∷ 0 ∷  -- task 2's message reaches card 1 first, and is held
+      0 ∷ 0 ∷ 0 ∷ 0 ∷ 0 ∷ 0 ∷ 0 ∷ 0 ∷  -- task 0's message reaches card 1, and is held
+      1 ∷ 0 ∷ 0 ∷ 0 ∷ 0 ∷ 0 ∷ 0 ∷ 0 ∷  -- card 1 takes broadcast 1, which releases both
+      1 ∷ 0 ∷ 0 ∷ 0 ∷ 0 ∷ 0 ∷ 0 ∷ 0 ∷  -- card 1 delivers it
+      1 ∷ 0 ∷ 0 ∷ 0 ∷ 0 ∷ 0 ∷ 0 ∷ 0 ∷  -- card 1 delivers "set register 1 to 4"
+      1 ∷ 0 ∷ 0 ∷ 0 ∷ 0 ∷ 0 ∷ 0 ∷ 0 ∷  -- card 1 delivers "set register 1 to 9"
+      1 ∷ 1 ∷ 0 ∷ 0 ∷ 0 ∷ 0 ∷ 0 ∷ 0 ∷  -- task 1 asks to read register 1
+      1 ∷ 0 ∷ 0 ∷ 0 ∷ 0 ∷ 0 ∷ 0 ∷ 0 ∷  -- task 1 performs it
+      1 ∷ 0 ∷ 0 ∷ 0 ∷ 0 ∷ 0 ∷ 0 ∷ 0 ∷  -- task 1 reports 9
+      [];
+  answer =
+      23 ∷ 0 ∷
+      0 ∷ 0 ∷ 0 ∷ 0 ∷ 0 ∷ 0 ∷ 0 ∷ 0 ∷ 0 ∷ 0 ∷ 0 ∷ 0 ∷ 0 ∷ 0 ∷ 0 ∷ 0 ∷ 0 ∷ 0 ∷ 0 ∷ 0 ∷ 0 ∷ 0 ∷ 0 ∷
+      0 ∷ 0 ∷ 0 ∷ 0 ∷
+      0 ∷ 0 ∷ 0 ∷ 0 ∷
+      0 ∷ 0 ∷ 0 ∷ 0 ∷
+      0 ∷ 0 ∷ 0 ∷ 0 ∷
+      0 ∷ 0 ∷ 0 ∷ 0 ∷
+      0 ∷ 0 ∷ 0 ∷ 0 ∷
+      0 ∷ 0 ∷ 0 ∷ 0 ∷
+      0 ∷ 0 ∷ 0 ∷ 0 ∷
+      0 ∷ 0 ∷ 0 ∷ 0 ∷
+      0 ∷ 0 ∷ 0 ∷ 0 ∷
+      0 ∷ 0 ∷ 0 ∷ 0 ∷
+      0 ∷ 0 ∷ 0 ∷ 0 ∷
+      0 ∷ 0 ∷ 0 ∷ 0 ∷
+      0 ∷ 0 ∷ 0 ∷ 0 ∷
+      0 ∷ 0 ∷ 0 ∷ 0 ∷
+      0 ∷ 0 ∷ 0 ∷ 0 ∷
+      0 ∷ 0 ∷ 0 ∷ 0 ∷
+      0 ∷ 0 ∷ 0 ∷ 0 ∷
+      0 ∷ 0 ∷ 0 ∷ 0 ∷
+      0 ∷ 0 ∷ 0 ∷ 0 ∷
+      0 ∷ 0 ∷ 0 ∷ 0 ∷
+      0 ∷ 0 ∷ 0 ∷ 0 ∷
+      9 ∷ 0 ∷ 0 ∷ 0 ∷
+      [];
+}
+
 -- all of them
 abbrev pub table : List NamedRun
-table = k1 ∷ k2 ∷ k3 ∷ k4 ∷ k4-eight ∷ k5 ∷ k6 ∷ k7 ∷ k8 ∷ k9 ∷ k10 ∷ []
+table = k1 ∷ k2 ∷ k3 ∷ k4 ∷ k4-eight ∷ k5 ∷ k6 ∷ k7 ∷ k8 ∷ k9 ∷ k10 ∷ two-held ∷ []
 
 -- "K1 to K10 are proved, together in one table"
 abbrev pub NamedRuns : Type 0

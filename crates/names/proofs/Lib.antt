@@ -2,3 +2,4 @@ pub mod Blocks
 pub mod CardSets
 pub mod PlacementLaws
 pub mod Rings
+pub mod UpdateMeaning

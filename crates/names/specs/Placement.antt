@@ -35,6 +35,10 @@ homesPlaced cards homes = each (length homes) (λ c. homePlaced cards (getD home
 unfoldable pub registersPlaced : ℕ → List ℕ → List ℕ → Bool
 registersPlaced cards copies primaries = each (length copies) (λ x. registerPlaced cards (getD copies x 0) (getD primaries x 0))
 
+-- "3, then 4"
+abbrev pub placementNumber : Bool → Bool → ℕ
+placementNumber sized placed = cond sized (cond placed 0 4) 3
+
 module _ (p : Placement) where
   -- the other sizes are the tables' lengths
   abbrev pub tasks : ℕ
@@ -66,4 +70,4 @@ module _ (p : Placement) where
 
   -- 0, or the refusal
   unfoldable pub placementRefusal : ℕ
-  placementRefusal = cond sized (cond placed 0 4) 3
+  placementRefusal = placementNumber sized placed

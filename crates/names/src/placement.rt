@@ -3,7 +3,7 @@ ghost use mathlib.Core.Path.{_≡_};
 ghost use Prim.Native.Nat.{_^_, _<_};
 ghost use lib.Dec.{ltb};
 ghost use lib.ListN.{getD};
-ghost use Rattle.names.specs.Placement.{placement, sizesInRange, registerPlaced, homesPlaced, registersPlaced, placed, placementRefusal};
+ghost use Rattle.names.specs.Placement.{placement, sizesInRange, registerPlaced, homesPlaced, registersPlaced, sized, placed, placementNumber, placementRefusal};
 use crate::Card;
 
 // The byte at i, and 0 past the end.
@@ -99,18 +99,34 @@ pub fn is_placed(cards: u32, homes: &[u8], copies: &[u8], primaries: &[u8]) -> b
     registers_placed(cards, copies, primaries)
 }
 
-// 0, or the refusal of a placement: 3, then 4.
+// Whether the sizes are in range; the numbers of registers and tasks are the tables' lengths.
+fn is_sized(cards: u32, homes: &[u8], copies: &[u8], primaries: &[u8]) -> bool
+    ensures { λ r. ⌜ r ≡ sized (placement cards (now (homes .entry)) (now (copies .entry)) (now (primaries .entry))) ⌝ }
+{
+    if !sizes_in_range(cards as usize, copies.len(), homes.len()) {
+        return false;
+    }
+    primaries.len() == copies.len()
+}
+
+// 3, then 4.
+fn number(sized: bool, placed: bool) -> u8
+    ensures { λ r. ⌜ r ≡ placementNumber sized placed ⌝ }
+{
+    if sized {
+        if placed {
+            return 0;
+        }
+        return 4;
+    }
+    3
+}
+
+// 0, or the refusal of a placement.
 pub fn refusal(cards: u32, homes: &[u8], copies: &[u8], primaries: &[u8]) -> u8
     ensures { λ r. ⌜ r ≡ placementRefusal (placement cards (now (homes .entry)) (now (copies .entry)) (now (primaries .entry))) ⌝ }
 {
-    if !sizes_in_range(cards as usize, copies.len(), homes.len()) {
-        return 3;
-    }
-    if primaries.len() != copies.len() {
-        return 3;
-    }
-    if !is_placed(cards, homes, copies, primaries) {
-        return 4;
-    }
-    0
+    let sized = is_sized(cards, homes, copies, primaries);
+    let placed = is_placed(cards, homes, copies, primaries);
+    number(sized, placed)
 }

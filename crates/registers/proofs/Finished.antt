@@ -13,7 +13,7 @@ use Rattle.registers.proofs.Messages.{delivered-ask, delivered-reply, d
 use Rattle.registers.proofs.Ordered.{Ordered, ordered-suf}
 use Rattle.registers.proofs.Requests.{base-of, requested}
 use Rattle.registers.proofs.Statuses.{Busy, Ended, Waits, busy-waits, changes, keeps, set, stays, waits-waits}
-use Rattle.registers.specs.Events.{Delivers, Performs, Posts, Requests}
+use Rattle.registers.specs.Events.{Delivers, Performs, Posts, Reports, Requests}
 use Rattle.registers.specs.Layer.{Values, Event, Msg, Precondition, Valid, World, ask, asking, base, deliver, dispatch, done, idle, perform, quiet, reply, report, request, run, send, site, waiting}
 
 module _ {U : Values} (W : World U) where
@@ -64,11 +64,11 @@ module _ {U : Values} (W : World U) where
     resolve (inl a) n = a
     resolve (inr b) n = absurd (n b)
 
-    wait-ask : (E : List (Event U)) → Valid W E → Live E → (k i : ℕ) → Ordered W rank (deliver (ask k) i ∷ E) → W .upd k ≡ true → i ≡ base W k → Waits ((run W E) .status (W .task k)) k
+    pub wait-ask : (E : List (Event U)) → Valid W E → Live E → (k i : ℕ) → Ordered W rank (deliver (ask k) i ∷ E) → W .upd k ≡ true → i ≡ base W k → Waits ((run W E) .status (W .task k)) k
     wait-ask E v l k i o u e =
         resolve (l .waits k (dispatched W rank E v (ordered-suf W rank (back stop) o) (ask k) (o .sent (ask k) i E (now (refl, refl)) .0))) (open-ask E v k i o u e)
 
-    wait-reply : (E : List (Event U)) → Valid W E → Live E → (k : ℕ) (w : U .Val) (i : ℕ) → Ordered W rank (deliver (reply k w) i ∷ E) → Waits ((run W E) .status (W .task k)) k
+    pub wait-reply : (E : List (Event U)) → Valid W E → Live E → (k : ℕ) (w : U .Val) (i : ℕ) → Ordered W rank (deliver (reply k w) i ∷ E) → Waits ((run W E) .status (W .task k)) k
     wait-reply E v l k w i o =
         let d = dispatched W rank E v (ordered-suf W rank (back stop) o) (reply k w) (o .sent (reply k w) i E (now (refl, refl)) .0) in
         resolve (l .waits k (delivered-ask W rank E v (ordered-suf W rank (back stop) o) k (site W k) (d .0) .0)) (open-reply E v k w i o)
@@ -107,8 +107,9 @@ module _ {U : Values} (W : World U) where
         fin-there (l .ended c k (stays (λ s. Ended s k) true (W .task j) quiet ((run W E) .status) c (λ y. y) h .1))
     ended-step idle E cn o l c k h = fin-there (l .ended c k h)
 
-    busy-step : (e : Event U) (E : List (Event U)) → Precondition W (run W E) e → Valid W E → Ordered W rank (e ∷ E) → Live E → (k : ℕ) → Busy ((run W E) .status (W .task k)) k
-        → Busy ((run W (e ∷ E)) .status (W .task k)) k ⊎ Fin (e ∷ E) k
+    -- a task's present operation stays it until it is reported
+    pub busy-step : (e : Event U) (E : List (Event U)) → Precondition W (run W E) e → Valid W E → Ordered W rank (e ∷ E) → Live E → (k : ℕ) → Busy ((run W E) .status (W .task k)) k
+        → Busy ((run W (e ∷ E)) .status (W .task k)) k ⊎ Reports k e
     busy-step (request j) E cn v o l k h = keeps (λ s. Busy s k) true (W .task j) (asking j) ((run W E) .status) (W .task k) h
         (λ b t. absurd (subst (λ s. Busy s k) (cn .1) (rw (← t) at h)))
     busy-step (perform j) E cn v o l k h = keeps (λ s. Busy s k) true (W .task j) (done j _) ((run W E) .status) (W .task k) h
@@ -121,8 +122,11 @@ module _ {U : Values} (W : World U) where
     busy-step (deliver (reply j w) i) E cn v o l k h = keeps (λ s. Busy s k) true (W .task j) (done j _) ((run W E) .status) (W .task k) h
         (λ b t. inl (busy-waits ((run W E) .status (W .task j)) (rw (← t) at h) (wait-reply E v l j w i o)))
     busy-step (report j w) E cn v o l k h = keeps (λ s. Busy s k) true (W .task j) quiet ((run W E) .status) (W .task k) h
-        (λ b t. inr (fin-there (l .ended (W .task j) k (subst (λ s. Ended s k) (sym cn) (subst (λ s. Busy s k) cn (rw (← t) at h))))))
+        (λ b t. inr (subst (λ s. Busy s k) cn (rw (← t) at h)))
     busy-step idle E cn v o l k h = inl h
+
+    reports-fin : (e : Event U) (E : List (Event U)) → Precondition W (run W E) e → Live E → (k : ℕ) → Reports k e → Fin (e ∷ E) k
+    reports-fin (report j w) E cn l k p = fin-there (l .ended (W .task j) k (subst (λ s. Ended s k) (sym cn) p))
 
     waits-step : (e : Event U) (E : List (Event U)) → Precondition W (run W E) e → Valid W E → Ordered W rank (e ∷ E) → Live E → (k : ℕ) → Waits ((run W E) .status (W .task k)) k
         → Waits ((run W (e ∷ E)) .status (W .task k)) k ⊎ Fin (e ∷ E) k
@@ -142,7 +146,7 @@ module _ {U : Values} (W : World U) where
         (λ b t. absurd (subst (λ s. Waits s k) cn (rw (← t) at h)))
     waits-step idle E cn v o l k h = inl h
 
-    busy-new : (e : Event U) (E : List (Event U)) (k : ℕ) → Requests k e → Busy ((run W (e ∷ E)) .status (W .task k)) k
+    pub busy-new : (e : Event U) (E : List (Event U)) (k : ℕ) → Requests k e → Busy ((run W (e ∷ E)) .status (W .task k)) k
     busy-new (request j) E k p = set (λ s. Busy s k) (W .task j) (asking j) ((run W E) .status) (W .task k) (ap (W .task) p) p
 
     waits-new : (e : Event U) (E : List (Event U)) (k : ℕ) → Posts k e → Waits ((run W (e ∷ E)) .status (W .task k)) k
@@ -160,7 +164,11 @@ module _ {U : Values} (W : World U) where
             f k (there h) = f′ (l .busy k h)
               where
                 f′ : Busy ((run W E) .status (W .task k)) k ⊎ Fin E k → Busy ((run W (e ∷ E)) .status (W .task k)) k ⊎ Fin (e ∷ E) k
-                f′ (inl x) = busy-step e E (v .0) (v .1) o l k x
+                f′ (inl x) = f″ (busy-step e E (v .0) (v .1) o l k x)
+                  where
+                    f″ : Busy ((run W (e ∷ E)) .status (W .task k)) k ⊎ Reports k e → Busy ((run W (e ∷ E)) .status (W .task k)) k ⊎ Fin (e ∷ E) k
+                    f″ (inl b) = inl b
+                    f″ (inr r) = inr (reports-fin e E (v .0) l k r)
                 f′ (inr y) = inr (fin-there y)
 
             g : (k : ℕ) → Any (Posts k) (e ∷ E) → Waits ((run W (e ∷ E)) .status (W .task k)) k ⊎ Fin (e ∷ E) k
@@ -170,6 +178,12 @@ module _ {U : Values} (W : World U) where
                 g′ : Waits ((run W E) .status (W .task k)) k ⊎ Fin E k → Waits ((run W (e ∷ E)) .status (W .task k)) k ⊎ Fin (e ∷ E) k
                 g′ (inl x) = waits-step e E (v .0) (v .1) o l k x
                 g′ (inr y) = inr (fin-there y)
+
+    -- a finished operation has been requested
+    pub fin-requested : (E : List (Event U)) → Valid W E → Ordered W rank E → {k : ℕ} → Fin E k → Any (Requests k) E
+    fin-requested E v o {k} (local x) = base-of W E v .performed k x
+    fin-requested E v o {k} (own u x) = base-of W E v .posted k (delivered-ask W rank E v o k (base W k) x .0)
+    fin-requested E v o {k} (answered u x) = base-of W E v .posted k (delivered-ask W rank E v o k (site W k) (delivered-reply W rank E v o k u (base W k) x .0 .0) .0)
 
     -- ---- a task's operations follow one another: when one is requested, the earlier ones are finished
 

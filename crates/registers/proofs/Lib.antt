@@ -4,6 +4,7 @@ pub mod Ordered
 pub mod Requests
 pub mod Messages
 pub mod Finished
+pub mod Reported
 pub mod Applied
 pub mod Copies
 pub mod Points

@@ -55,7 +55,7 @@ module _ {U : Values} (W : World U) where
       requests-placed : (e : Event U) (s : State U) (k : ℕ) → Requests k e → Precondition W s e → (i : ℕ) → W .holds k i ≡ W .copy (W .reg k) i
       requests-placed (request j) s k p c i = subst (λ a. W .holds a i ≡ W .copy (W .reg a) i) p (c .2 i)
 
-      lies : {k c : ℕ} → Any (Crucial W k c) E → (i : ℕ) → W .holds k i ≡ W .copy (W .reg k) i
+      pub lies : {k c : ℕ} → Any (Crucial W k c) E → (i : ℕ) → W .holds k i ≡ W .copy (W .reg k) i
       lies {k} {c} h i = go (effect W (any-at h .1))
         where
           asked : Any (Requests k) E → W .holds k i ≡ W .copy (W .reg k) i

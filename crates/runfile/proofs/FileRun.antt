@@ -13,6 +13,7 @@ use Rattle.lists.specs.Histories.{In}
 use Rattle.names.specs.declared.Answer.{Answer}
 use Rattle.claims.specs.Published.{begin}
 use Rattle.claims.specs.SerialOrder.{SerialOrder}
+use Rattle.claims.proofs.FewRequests.{never-23}
 use Rattle.store.specs.Demand2.{Stands}
 use Rattle.store.specs.Run.{Store, started, storeAfter, answersOf, tableOf}
 use Rattle.store.proofs.StartLaw.{start-stands}
@@ -22,7 +23,7 @@ use Rattle.runfile.specs.AnswerFile.{fourBytes, answerBytes, answered}
 use Rattle.tally.specs.Tally.{isTaken}
 use Rattle.runfile.specs.Run.{fileRegisters, fileChannel, answersIn, isRefused, answerOf, answerRefusal, answerOutput, takenOf, refusedOf}
 use Rattle.runfile.specs.FileRun.{FileRun}
-use Rattle.runfile.proofs.RunFileLaws.{accepted-placement, accepted-steps}
+use Rattle.runfile.proofs.RunFileLaws.{accepted-placement, accepted-most, accepted-steps}
 use Rattle.runfile.proofs.AnswersFrom.{one-each, no-six}
 use Rattle.runfile.proofs.LongFile.{long-file}
 
@@ -100,6 +101,13 @@ never-six : (file : List ℕ) → fileRefusal file ≡ 0 → (a : Answer) → In
 unfolding answersIn
 never-six file ok a h = no-six (placementIn file) (accepted-placement file ok) [] (runFileIn file .steps) a h
 
+never-twenty-three : (file : List ℕ) → fileRefusal file ≡ 0 → (a : Answer) → In a (answersIn file) → a .result ≢ 23
+unfolding answersIn
+never-twenty-three file ok a h =
+    let e = accepted-steps file ok in
+    let m = accepted-most file ok in
+    never-23 (placementIn file) begin (runFileIn file .steps) (omega (arith, e, m)) a h
+
 pub file-run : FileRun
 file-run = record {
   begun = begun;
@@ -110,6 +118,7 @@ file-run = record {
   all-counted = all-counted;
   store-answers = store-answers;
   never-six = never-six;
+  never-twenty-three = never-twenty-three;
   explained = explained;
   long-file = long-file;
 }

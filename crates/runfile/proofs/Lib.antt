@@ -4,6 +4,8 @@ pub mod AnswerLaws
 pub mod WriteLaws
 pub mod RunFileLaws
 pub mod LongFile
+pub mod FileMeaning
+pub mod AnswerMeaning
 -- Whole runs
 pub mod Eight
 pub mod StepwiseLaws

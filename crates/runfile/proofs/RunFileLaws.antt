@@ -165,12 +165,15 @@ module _ (s : List ℕ) (ok : fileRefusal s ≡ 0) where
   pub accepted-registers : registers (placementIn s) ≡ registersIn s
   accepted-registers = copies-length s (facts .1)
 
+  pub accepted-primaries : length (placementIn s .primaries) ≡ registersIn s
+  accepted-primaries = primaries-length s (facts .1)
+
   -- an accepted file's placement is accepted for a start without a file
   pub accepted-placement : placementRefusal (placementIn s) ≡ 0
   unfolding placementIn
   accepted-placement =
       let range : InRange (cardsIn s) (registers (placementIn s)) (tasks (placementIn s)) = rw (accepted-tasks, accepted-registers) (facts .0 .0) in
-      let sizes : Sized (placementIn s) = (range, primaries-length s (facts .1) ∙ sym accepted-registers) in
+      let sizes : Sized (placementIn s) = (range, accepted-primaries ∙ sym accepted-registers) in
       placement-verdict (placementIn s) 0 .1 (accepted-one sizes (placed-is (placementIn s) .0 (well-placed s (facts .1) .1 (facts .2))))
 
   pub accepted-most : stepsIn s ≤ 4096

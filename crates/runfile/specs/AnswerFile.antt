@@ -32,9 +32,13 @@ wordStored at v out = sets out at (fourBytes v)
 unfoldable pub headed : ℕ → List ℕ → List ℕ
 headed n out = sets out 0 (twoBytes n)
 
--- the answer of step k of n. "The value array starts at byte 2 + N of the lent buffer and is written there"
+-- "The value array starts at byte 2 + N of the lent buffer and is written there"
+abbrev pub valuesAt : ℕ → ℕ
+valuesAt n = 2 + n
+
+-- the answer of step k of n
 unfoldable pub putAnswer : ℕ → ℕ → Answer → List ℕ → List ℕ
-putAnswer n k a out = wordStored (2 + n + 4 * k) (a .value) (set out (2 + k) (a .result))
+putAnswer n k a out = wordStored (valuesAt n + 4 * k) (a .value) (set out (2 + k) (a .result))
 
 -- the first k answers of n
 unfoldable pub putAnswers : ℕ → (ℕ → Answer) → ℕ → List ℕ → List ℕ

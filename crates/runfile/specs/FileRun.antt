@@ -28,6 +28,8 @@ pub record FileRun : Type 0 where
   pub store-answers : (file : List ℕ) → fileRefusal file ≡ 0 → (m : Store) → answersIn file ≡ answersOf (started (placementIn file) m) (runFileIn file .steps)
   -- "No state reached by calls from a start ever gives 6."
   pub never-six : (file : List ℕ) → fileRefusal file ≡ 0 → (a : Answer) → In a (answersIn file) → a .result ≢ 6
+  -- 23: "only calls beyond one file reach it"
+  pub never-twenty-three : (file : List ℕ) → fileRefusal file ≡ 0 → (a : Answer) → In a (answersIn file) → a .result ≢ 23
   -- "An accepted file's steps are such a list": one serial order explains the answers and the store's table of copies
   pub explained : (file : List ℕ) → fileRefusal file ≡ 0 → (m : Store)
       → (order : List ℕ) × SerialOrder (placementIn file) (runFileIn file .steps) (answersIn file) (tableOf (storeAfter (started (placementIn file) m) (runFileIn file .steps))) order

@@ -1,5 +1,8 @@
 pub mod RunFile
 pub mod AnswerFile
+-- What they mean, stated apart from the definitions
+pub mod FileMeaning
+pub mod AnswerMeaning
 -- Whole runs
 pub mod Run
 pub mod Stepwise

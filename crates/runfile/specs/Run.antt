@@ -9,7 +9,7 @@ use Rattle.names.specs.declared.Answer.{Answer}
 use Rattle.tally.specs.Tally.{isTaken}
 use Rattle.claims.specs.Published.{begin}
 use Rattle.claims.specs.PublishedRun.{answersFrom}
-use Rattle.store.specs.Start.{startRegisters, startChannel}
+use Rattle.tables.specs.Start.{startRegisters, startChannel}
 use Rattle.runfile.specs.declared.Answered.{Answered}
 use Rattle.runfile.specs.RunFile.{stepsIn, placementIn, runFileIn, fileRefusal}
 use Rattle.runfile.specs.AnswerFile.{answerBytes, answered}

@@ -29,15 +29,15 @@ use Rattle.claims.specs.Steps.{good}
 use Rattle.claims.specs.Refusals.{outboxRoom}
 use Rattle.claims.specs.Published.{Published, mail, setStatus, setCopy, post, withChannel, replies, replyTo, receiving, doneUpdate}
 use Rattle.claims.specs.Published as Pub
-use Rattle.store.specs.declared.Doing.the-variants.{DoneRead, DoneUpdate}
-use Rattle.store.specs.Layout.{homeOf, copyOf, onlyCard}
-use Rattle.store.specs.Doings.{doingStored}
-use Rattle.store.specs.Outbox.{outCountOf, roomy}
+use Rattle.tables.specs.declared.Doing.the-variants.{DoneRead, DoneUpdate}
+use Rattle.tables.specs.Layout.{homeOf, copyOf, onlyCard}
+use Rattle.tables.specs.Doings.{doingStored}
+use Rattle.tables.specs.Outbox.{outCountOf, roomy}
 use Rattle.store.specs.Perform.{copyUpdated}
 use Rattle.store.specs.Deliver.{replied, repliesHere, applied, bodyNumber, bodyWords, foundNumber, foundWords, deliverNumber, deliverRegisters, deliverChannel}
-use Rattle.store.specs.Sized.{doingFits}
+use Rattle.tables.specs.Sized.{doingFits}
 use Rattle.store.specs.Step.{outcome}
-use Rattle.store.specs.Shows.{statusOf, plain, ChannelShows}
+use Rattle.tables.specs.Shows.{statusOf, plain, ChannelShows}
 use Rattle.store.specs.Demand2.{StepFollows}
 use Rattle.store.proofs.OverChannel.{Goes, goes}
 use Rattle.store.proofs.Standing.{Ready, home-there, holds-is, count-is, follows}

@@ -1,6 +1,6 @@
 -- Demand 3: the store keeps step with the published algorithm, answer by answer, so what explains that explains the store.
 use Prim.Native.Nat.{ℕ, _<_, _^_}
-use mathlib.Core.Path.{_≡_, refl, sym, ap₂, _∙_}
+use mathlib.Core.Path.{_≡_, refl, subst, sym, ap₂, _∙_}
 use mathlib.Core.Bool.{true}
 use mathlib.Core.List.{List, [], _∷_}
 use native.Mathlib.Decide.{decLt}
@@ -13,12 +13,14 @@ use Rattle.names.specs.CardSet.{memberOf}
 use Rattle.names.specs.Placement.{Placement, registers, holders, copy}
 use Rattle.channel.proofs.Offered.{member-present}
 use Rattle.claims.specs.Steps.{RawStep, decode}
+use Rattle.claims.specs.Reports.{LedgerNumbers}
 use Rattle.claims.specs.Published.{Published, begin}
 use Rattle.claims.specs.PublishedRun.{Answer, afterDecoded, answersFrom, finalFrom}
 use Rattle.claims.proofs.Demand3.{demand-3}
+use Rattle.claims.proofs.LedgerNumbers.{ledger-numbers}
 use Rattle.store.specs.Demand2.{Stands}
 use Rattle.store.specs.Run.{Store, started, next, storeAfter, answersOf, tableOf}
-use Rattle.store.specs.Demand3.{Demand3}
+use Rattle.store.specs.Demand3.{Demand3, LedgerResults}
 use Rattle.store.proofs.StepLaw.{step-follows}
 use Rattle.store.proofs.StartLaw.{start-stands}
 
@@ -73,3 +75,7 @@ store-demand-3 P ok m steps =
         copy-values = λ x i c. values P (storeAfter (started P m) steps) (finalFrom P begin steps) g x i c ∙ r .1 .copy-values x i c;
       },
     )
+
+-- "Each step is taken or refused by the rules above"
+pub store-ledger-results : LedgerResults
+store-ledger-results P ok m steps = subst (LedgerNumbers P steps) (sym (answers-same P (started P m) begin steps (start-stands P ok m))) (ledger-numbers P ok steps)

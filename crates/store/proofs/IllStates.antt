@@ -1,154 +1,159 @@
--- Each kind of ill-sized state is found: a well-sized one has every bound.
-use Prim.Native.Nat.{ℕ, _+_, _-_, _<_, _≤_, _^_}
+-- A state is ill sized exactly if one of the listed kinds holds: the channel's kinds by its own law, the registers' test by test.
+use Prim.Native.Nat.{ℕ, _+_, _-_, _<_, _≤_, _^_, min}
 use mathlib.Core.Path.{_≡_, refl, subst}
-use mathlib.Core.Bool.{Bool, true, false, _&&_, _||_}
+use mathlib.Core.Bool.{Bool, true, false, _&&_}
 use mathlib.Core.List.{List}
 use native.Mathlib.Omega.{arith}
-use borrow.Author.Tests.{ltb-true, leb-true}
-use lib.Dec.{eqb, ltb, leb}
+use borrow.Author.Tests.{ltb-true, leb-true, ltb-false, leb-false}
+use lib.Dec.{ltb, leb}
 use lib.ListN.{getD}
 use Rattle.lists.specs.Tests.{clash, false-of, and-fst, and-snd}
-use Rattle.lists.specs.Conjunctions.{and-three, and-five}
-use Rattle.names.specs.declared.Letter.{Letter}
-use Rattle.names.specs.CardSet.{memberOf, single, several}
-use Rattle.names.specs.Letters.{letterAt, kindAt, known}
-use Rattle.channel.specs.Layout.{cardsWord, tasksWord, registersWord, cardsOf, tasksOf, registersOf, madeOf, takenOf, countOf, heldCountOf, placeOf, heldBlock, flightBlock, broadcastBlock}
-use Rattle.channel.specs.Letters.{fits}
-use Rattle.channel.specs.Begin.{sizesFit}
-use Rattle.channel.specs.TakeSingle.{noFlight}
-use Rattle.channel.specs.Sized.{blockFits, inboxFits, heldFits, flightFits, broadcastFits, headFits, wellSized}
-use Rattle.channel.proofs.WellSizedParts.{Fit}
-use Rattle.channel.proofs.WellSizedParts as Parts
-use Rattle.channel.proofs.FitQueues.{block-letter, block-tag}
-use Rattle.channel.proofs.Offered.{fits-is}
-use Rattle.store.specs.declared.Doing.{Doing}
-use Rattle.store.specs.declared.Doing.the-variants.{AskingRead, AskingUpdate}
-use Rattle.store.specs.Doings.{doingAt}
-use Rattle.store.specs.Outbox.{outCountOf, outPlace}
-use Rattle.store.specs.Sized.{outgoing, doingFits, outFits, registersSized, storeSized}
-use Rattle.store.specs.IllStates.{PastLimit, absent-task, absent-register, unknown-function, absent-sender, absent-destination, no-destination, PastBlock, past-field, past-tag, Six, IllStates}
-use Rattle.store.proofs.Sizing.{RegistersFit, fit-of}
+use Rattle.lists.specs.Conjunctions.{and-three, and-fails}
+use Rattle.lists.specs.Every.{each, each-failing}
+use Rattle.channel.specs.Layout.{cardsOf, tasksOf, registersOf}
+use Rattle.channel.specs.Sized.{wellSized}
+use Rattle.channel.specs.IllSized.{IllChannel}
+use Rattle.channel.specs.IllSized as Channel
+use Rattle.channel.proofs.Offered.{block-exact, channel-exact}
+use Rattle.tables.specs.declared.Doing.{Doing}
+use Rattle.tables.specs.declared.Doing.the-variants.{Quiet, AskingRead, AskingUpdate, Waiting, DoneRead, DoneUpdate}
+use Rattle.tables.specs.Layout.{kindWord, requestsOf, homeOf, holdersOf, primaryOf}
+use Rattle.tables.specs.Doings.{doingAt}
+use Rattle.tables.specs.Outbox.{outHeadOf, outCountOf, outPlace}
+use Rattle.tables.specs.Sized.{doingFits, taskFits, registerFits, outFits, outboxFits, registersSized, storeSized}
+use Rattle.tables.proofs.Sizing.{RegistersFit, fit-of}
+use Rattle.store.specs.IllStates.{IllSized, no-card, cards, no-register, registers, no-task, tasks, broadcasts, requests, outbox, inbox, held, home, holders, primary, read, update, no-function, function, out-message, inbox-message, held-message, flight-message, broadcast-message, above, below, outbox-head, inbox-head, doing, flight-destination, broadcast-destination, IllStates}
 use Rattle.store.proofs.StepLaw.{ill-sized}
 
--- a fitting message has no field past its limit
-past : (cs : List ℕ) (l : Letter) → fits cs l ≡ true → PastLimit cs l → ⊥
-past cs l e (absent-task h) = omega (arith, fits-is cs l e .task)
-past cs l e (absent-register h) = omega (arith, fits-is cs l e .register)
-past cs l e (unknown-function h) = clash (fits-is cs l e .body) h
-past cs l e (absent-sender h) = omega (arith, fits-is cs l e .sender)
-past cs l e (absent-destination h) = omega (arith, fits-is cs l e .present)
-past cs l e (no-destination h) = omega (arith, fits-is cs l e .someone)
-
-past-block : (cs : List ℕ) (b : ℕ) → blockFits cs b ≡ true → PastBlock cs b → ⊥
-past-block cs b e (past-field p) = past cs (letterAt cs b) (block-letter cs b e) p
-past-block cs b e (past-tag h) = omega (arith, block-tag cs b e)
-
 module _ (rs cs : List ℕ) where
-  -- what no well-sized memories have is refused
-  six : (storeSized rs cs ≡ true → ⊥) → Six rs cs
-  six n = ill-sized rs cs (false-of (storeSized rs cs) n)
+  -- ---- a kind for each test that fails
 
-  -- the channel's part, and the registers'
-  channel-fit : storeSized rs cs ≡ true → Fit cs
+  of-channel : IllChannel cs → IllSized rs cs
+  of-channel (Channel.no-card h) = no-card h
+  of-channel (Channel.cards h) = cards h
+  of-channel (Channel.no-register h) = no-register h
+  of-channel (Channel.registers h) = registers h
+  of-channel (Channel.no-task h) = no-task h
+  of-channel (Channel.tasks h) = tasks h
+  of-channel (Channel.broadcasts h) = broadcasts h
+  of-channel (Channel.inbox i c h) = inbox i c h
+  of-channel (Channel.held i c h) = held i c h
+  of-channel (Channel.inbox-message i k c g p) = inbox-message i k c g p
+  of-channel (Channel.held-message i k c g p) = held-message i k c g p
+  of-channel (Channel.flight-message t c q p) = flight-message t c q p
+  of-channel (Channel.broadcast-message k m h p) = broadcast-message k m h p
+  of-channel (Channel.above i c h) = above i c h
+  of-channel (Channel.below i c h) = below i c h
+  of-channel (Channel.inbox-head i c h) = inbox-head i c h
+  of-channel (Channel.flight-destination t c q p) = flight-destination t c q p
+  of-channel (Channel.broadcast-destination k m h p) = broadcast-destination k m h p
+
+  doing-fails : (t : ℕ) → t < tasksOf cs → (d : Doing) → doingAt rs t ≡ d → doingFits cs d ≡ false → IllSized rs cs
+  unfolding doingFits
+  doing-fails t c Quiet q e = absurd (clash refl e)
+  doing-fails t c (AskingRead x) q e = read t x c q (ltb-false _ _ e)
+  doing-fails t c (AskingUpdate x f w) q e =
+      and-fails (ltb (x .0) (registersOf cs) && leb 1 f) (leb f 4) e
+      (λ e. and-fails (ltb (x .0) (registersOf cs)) (leb 1 f) e
+      (λ p. update t x f w c q (ltb-false _ _ p))
+      (λ p. let m = leb-false 1 f p in let z : f ≡ 0 = omega arith in no-function t x w c (rw z at q)))
+      (λ p. function t x f w c q (leb-false _ _ p))
+  doing-fails t c Waiting q e = absurd (clash refl e)
+  doing-fails t c (DoneRead v) q e = absurd (clash refl e)
+  doing-fails t c DoneUpdate q e = absurd (clash refl e)
+
+  task-fails : (t : ℕ) → t < tasksOf cs → taskFits rs cs t ≡ false → IllSized rs cs
+  unfolding taskFits
+  task-fails t c e =
+      and-fails (ltb (homeOf rs t) (cardsOf cs) && leb (getD rs (kindWord t) 0) 5) (doingFits cs (doingAt rs t)) e
+      (λ e. and-fails (ltb (homeOf rs t) (cardsOf cs)) (leb (getD rs (kindWord t) 0) 5) e (λ p. home t c (ltb-false _ _ p)) (λ p. doing t c (leb-false _ _ p)))
+      (λ p. doing-fails t c (doingAt rs t) refl p)
+
+  register-fails : (x : ℕ) → x < registersOf cs → registerFits rs cs x ≡ false → IllSized rs cs
+  unfolding registerFits
+  register-fails x c e =
+      and-fails (ltb (holdersOf rs x) (2 ^ cardsOf cs)) (ltb (primaryOf rs x) (cardsOf cs)) e
+      (λ p. holders x c (ltb-false _ _ p)) (λ p. primary x c (ltb-false _ _ p))
+
+  outbox-fails : (i : ℕ) → i < cardsOf cs → outboxFits rs cs i ≡ false → IllSized rs cs
+  unfolding outboxFits outFits
+  outbox-fails i c e =
+      let n : ℕ = min (outCountOf rs i) 16 in
+      and-fails (ltb (outHeadOf rs i) 16 && leb (outCountOf rs i) 16) (each n (outFits rs cs i)) e
+      (λ e. and-fails (ltb (outHeadOf rs i) 16) (leb (outCountOf rs i) 16) e (λ p. outbox-head i c (ltb-false _ _ p)) (λ p. outbox i c (leb-false _ _ p)))
+      (λ h. let x = each-failing n (outFits rs cs i) h in out-message i (x .0) c (omega (arith, x .1)) (block-exact cs rs (outPlace rs i (x .0)) .0 (x .2)))
+
+  registers-found : registersSized rs cs ≡ false → IllSized rs cs
+  unfolding registersSized
+  registers-found e =
+      let a : Bool = leb (requestsOf rs) 65535 in
+      let b : Bool = each (tasksOf cs) (taskFits rs cs) in
+      let c : Bool = each (registersOf cs) (registerFits rs cs) in
+      and-fails (a && b && c) (each (cardsOf cs) (outboxFits rs cs)) e
+      (λ e. and-fails (a && b) c e
+      (λ e. and-fails a b e (λ p. requests (leb-false _ _ p))
+      (λ h. let x = each-failing (tasksOf cs) (taskFits rs cs) h in task-fails (x .0) (x .1) (x .2)))
+      (λ h. let x = each-failing (registersOf cs) (registerFits rs cs) h in register-fails (x .0) (x .1) (x .2)))
+      (λ h. let x = each-failing (cardsOf cs) (outboxFits rs cs) h in outbox-fails (x .0) (x .1) (x .2))
+
+  found : storeSized rs cs ≡ false → IllSized rs cs
   unfolding storeSized
-  channel-fit e = Parts.fit-of cs (and-fst (wellSized cs) (registersSized rs cs) e)
+  found e = and-fails (wellSized cs) (registersSized rs cs) e (λ h. of-channel (channel-exact cs .0 h)) registers-found
 
-  registers-fit : storeSized rs cs ≡ true → RegistersFit rs cs
-  unfolding storeSized
-  registers-fit e = fit-of rs cs (and-snd (wellSized cs) (registersSized rs cs) e)
+  -- ---- a well-sized state has none of them
 
-  abbrev c-word : ℕ
-  c-word = getD cs cardsWord 0
+  module _ (e : storeSized rs cs ≡ true) where
+    -- the channel's part, and the registers'
+    not-channel : IllChannel cs → ⊥
+    unfolding storeSized
+    not-channel i = clash (and-fst (wellSized cs) (registersSized rs cs) e) (channel-exact cs .1 i)
 
-  abbrev t-word : ℕ
-  t-word = getD cs tasksWord 0
+    fit : RegistersFit rs cs
+    unfolding storeSized
+    fit = fit-of rs cs (and-snd (wellSized cs) (registersSized rs cs) e)
 
-  abbrev r-word : ℕ
-  r-word = getD cs registersWord 0
+    -- what task t asks
+    asks : (d : Doing) (t : ℕ) → t < tasksOf cs → doingAt rs t ≡ d → doingFits cs d ≡ true
+    asks d t c q = subst (λ d. doingFits cs d ≡ true) q (fit .doing t c)
 
-  sizes : storeSized rs cs ≡ true
-      → (1 ≤ c-word) × (c-word ≤ 8) × (1 ≤ t-word) × (t-word ≤ 16) × (1 ≤ r-word) × (r-word ≤ 32) × (madeOf cs ≤ 65535)
-  unfolding headFits sizesFit
-  sizes e =
-      let h = channel-fit e .sizes in
-      let s = and-fst (sizesFit c-word t-word r-word) (leb (madeOf cs) 65535) h in
-      let a = and-five (leb 1 c-word) (leb c-word 8) (leb 1 t-word) (leb t-word 16) (leb 1 r-word)
-      (and-fst (leb 1 c-word && leb c-word 8 && leb 1 t-word && leb t-word 16 && leb 1 r-word) (leb r-word 32) s) in
-      let b = and-snd (leb 1 c-word && leb c-word 8 && leb 1 t-word && leb t-word 16 && leb 1 r-word) (leb r-word 32) s in (
-        leb-true _ _ (a .0),
-        leb-true _ _ (a .1),
-        leb-true _ _ (a .2),
-        leb-true _ _ (a .3),
-        leb-true _ _ (a .4),
-        leb-true _ _ b,
-        leb-true _ _ (and-snd (sizesFit c-word t-word r-word) (leb (madeOf cs) 65535) h),
-      )
+    none : IllSized rs cs → ⊥
+    unfolding doingFits outFits
+    none (no-card h) = not-channel (Channel.no-card h)
+    none (cards h) = not-channel (Channel.cards h)
+    none (no-register h) = not-channel (Channel.no-register h)
+    none (registers h) = not-channel (Channel.registers h)
+    none (no-task h) = not-channel (Channel.no-task h)
+    none (tasks h) = not-channel (Channel.tasks h)
+    none (broadcasts h) = not-channel (Channel.broadcasts h)
+    none (requests h) = omega (arith, fit .requests)
+    none (outbox i c h) = omega (arith, fit .count i c)
+    none (inbox i c h) = not-channel (Channel.inbox i c h)
+    none (held i c h) = not-channel (Channel.held i c h)
+    none (home t c h) = omega (arith, fit .home t c)
+    none (holders x c h) = omega (arith, fit .holders x c)
+    none (primary x c h) = omega (arith, fit .primary x c)
+    none (read t x c q h) = let l = ltb-true (x .0) (registersOf cs) (asks (AskingRead x) t c q) in omega arith
+    none (update t x f w c q h) =
+        let l = ltb-true (x .0) (registersOf cs) (and-three (ltb (x .0) (registersOf cs)) (leb 1 f) (leb f 4) (asks (AskingUpdate x f w) t c q) .0) in omega arith
+    none (no-function t x w c q) =
+        let l = leb-true 1 0 (and-three (ltb (x .0) (registersOf cs)) (leb 1 0) (leb 0 4) (asks (AskingUpdate x 0 w) t c q) .1) in omega arith
+    none (function t x f w c q h) =
+        let l = leb-true f 4 (and-three (ltb (x .0) (registersOf cs)) (leb 1 f) (leb f 4) (asks (AskingUpdate x f w) t c q) .2) in omega arith
+    none (out-message i k c g p) = clash (fit .out i k c g) (block-exact cs rs (outPlace rs i k) .1 p)
+    none (inbox-message i k c g p) = not-channel (Channel.inbox-message i k c g p)
+    none (held-message i k c g p) = not-channel (Channel.held-message i k c g p)
+    none (flight-message t c q p) = not-channel (Channel.flight-message t c q p)
+    none (broadcast-message k m h p) = not-channel (Channel.broadcast-message k m h p)
+    none (above i c h) = not-channel (Channel.above i c h)
+    none (below i c h) = not-channel (Channel.below i c h)
+    none (outbox-head i c h) = omega (arith, fit .head i c)
+    none (inbox-head i c h) = not-channel (Channel.inbox-head i c h)
+    none (doing t c h) = omega (arith, fit .kind t c)
+    none (flight-destination t c q p) = not-channel (Channel.flight-destination t c q p)
+    none (broadcast-destination k m h p) = not-channel (Channel.broadcast-destination k m h p)
 
-  -- an asking task's part
-  asks : (d : Doing) → (t : ℕ) → t < tasksOf cs → doingAt rs t ≡ d → storeSized rs cs ≡ true → doingFits cs d ≡ true
-  asks d t h q e = subst (λ d. doingFits cs d ≡ true) q (registers-fit e .doing t h)
-
-  -- the messages
-  out-fit : storeSized rs cs ≡ true → (i k : ℕ) → i < cardsOf cs → k < outCountOf rs i → fits cs (outgoing rs i (outPlace rs i k)) ≡ true
-  unfolding outFits
-  out-fit e i k h g = and-snd (leb 1 (kindAt rs (outPlace rs i k)) && leb (kindAt rs (outPlace rs i k)) 4) _ (registers-fit e .out i k h g)
-
-  inbox-fit : storeSized rs cs ≡ true → (i k : ℕ) → i < cardsOf cs → k < countOf cs i → blockFits cs (placeOf cs i k) ≡ true
-  unfolding inboxFits
-  inbox-fit e i k h g =
-      and-fst (blockFits cs (placeOf cs i k)) (memberOf (letterAt cs (placeOf cs i k) .to) i) (channel-fit e .card i h .inbox k g)
-
-  held-fit : storeSized rs cs ≡ true → (i k : ℕ) → i < cardsOf cs → k < heldCountOf cs i → blockFits cs (heldBlock i k) ≡ true
-  unfolding heldFits
-  held-fit e i k h g =
-      and-three (blockFits cs (heldBlock i k)) (single (letterAt cs (heldBlock i k) .to)) (memberOf (letterAt cs (heldBlock i k) .to) i)
-      (channel-fit e .card i h .helds k g) .0
-
-  flight-fit : storeSized rs cs ≡ true → (t : ℕ) → t < tasksOf cs → noFlight cs t ≡ false → blockFits cs (flightBlock t) ≡ true
-  unfolding flightFits
-  flight-fit e t h q = go (noFlight cs t) q (channel-fit e .flight t h)
-    where
-      go : (b : Bool) → b ≡ false
-          → (b || (blockFits cs (flightBlock t) && eqb (letterAt cs (flightBlock t) .message .task .0) t && single (letterAt cs (flightBlock t) .to))) ≡ true
-          → blockFits cs (flightBlock t) ≡ true
-      go true z f = absurd (clash refl z)
-      go false z f =
-          and-three (blockFits cs (flightBlock t)) (eqb (letterAt cs (flightBlock t) .message .task .0) t) (single (letterAt cs (flightBlock t) .to)) f .0
-
-  broadcast-fit : storeSized rs cs ≡ true → (k : ℕ) → k < madeOf cs → k < 64 → blockFits cs (broadcastBlock (madeOf cs - k)) ≡ true
-  unfolding broadcastFits
-  broadcast-fit e k m h =
-      and-fst (blockFits cs (broadcastBlock (madeOf cs - k))) (several (letterAt cs (broadcastBlock (madeOf cs - k)) .to)) (channel-fit e .recent k m h)
+  is-false : IllSized rs cs → storeSized rs cs ≡ false
+  is-false i = false-of (storeSized rs cs) (λ e. none e i)
 
   pub ill-states : IllStates rs cs
-  unfolding doingFits
-  ill-states = record {
-    no-card = λ h. six (λ e. omega (arith, sizes e .0));
-    cards = λ h. six (λ e. omega (arith, sizes e .1));
-    no-register = λ h. six (λ e. omega (arith, sizes e .4));
-    registers = λ h. six (λ e. omega (arith, sizes e .5));
-    no-task = λ h. six (λ e. omega (arith, sizes e .2));
-    tasks = λ h. six (λ e. omega (arith, sizes e .3));
-    broadcasts = λ h. six (λ e. omega (arith, sizes e .6));
-    requests = λ h. six (λ e. omega (arith, registers-fit e .requests));
-    outbox = λ i c h. six (λ e. omega (arith, registers-fit e .count i c));
-    inbox = λ i c h. six (λ e. omega (arith, channel-fit e .card i c .count));
-    held = λ i c h. six (λ e. omega (arith, channel-fit e .card i c .held));
-    home = λ t c h. six (λ e. omega (arith, registers-fit e .home t c));
-    holders = λ x c h. six (λ e. omega (arith, registers-fit e .holders x c));
-    primary = λ x c h. six (λ e. omega (arith, registers-fit e .primary x c));
-    read = λ t x c q h. six (λ e. let l = ltb-true (x .0) (registersOf cs) (asks (AskingRead x) t c q e) in omega arith);
-    update = λ t x f w c q h. six (λ e.
-        let l = ltb-true (x .0) (registersOf cs) (and-three (ltb (x .0) (registersOf cs)) (leb 1 f) (leb f 4) (asks (AskingUpdate x f w) t c q e) .0) in omega arith);
-    no-function = λ t x w c q. six (λ e.
-        let l = leb-true 1 0 (and-three (ltb (x .0) (registersOf cs)) (leb 1 0) (leb 0 4) (asks (AskingUpdate x 0 w) t c q e) .1) in omega arith);
-    function = λ t x f w c q h. six (λ e.
-        let l = leb-true f 4 (and-three (ltb (x .0) (registersOf cs)) (leb 1 f) (leb f 4) (asks (AskingUpdate x f w) t c q e) .2) in omega arith);
-    out-message = λ i k c g p. six (λ e. past cs _ (out-fit e i k c g) p);
-    inbox-message = λ i k c g p. six (λ e. past-block cs _ (inbox-fit e i k c g) p);
-    held-message = λ i k c g p. six (λ e. past-block cs _ (held-fit e i k c g) p);
-    flight-message = λ t c q p. six (λ e. past-block cs _ (flight-fit e t c q) p);
-    broadcast-message = λ k m h p. six (λ e. past-block cs _ (broadcast-fit e k m h) p);
-    above = λ i c h. six (λ e. omega (arith, channel-fit e .card i c .behind));
-    below = λ i c h. six (λ e. omega (arith, channel-fit e .card i c .near));
-  }
+  ill-states = record { exact = (found, is-false); six = λ i. ill-sized rs cs (is-false i) }

@@ -1,7 +1,3 @@
--- What each change of the registers' memory does to what it shows, and that it keeps it well sized
-pub mod Words
-pub mod Showing
-pub mod Sizing
 -- The channel's calls as the registers see them
 pub mod OverChannel
 -- Each of the ten steps follows the published algorithm
@@ -12,7 +8,6 @@ pub mod Posting
 pub mod SendLaw
 pub mod TrafficLaw
 pub mod DeliverLaw
-pub mod DecodeLaw
 pub mod StepLaw
 -- The start
 pub mod Placed
@@ -20,8 +15,10 @@ pub mod StartLaw
 -- Demands 2 and 3, and never 6
 pub mod SomeState
 pub mod Demand2
+pub mod StepResults
 pub mod Demand3
 pub mod NeverSix
+pub mod NeverTwentyThree
 pub mod CheckedOnce
 -- Refusal 6 for the state, kind by kind
 pub mod IllStates

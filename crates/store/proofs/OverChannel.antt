@@ -16,7 +16,7 @@ use Rattle.channel.specs.MemoryCalls.{SameSizes}
 use Rattle.channel.proofs.OfferedCalls.{Passes, channelRefusal-map, channelStep-map}
 use Rattle.claims.specs.Published.{mail}
 use Rattle.claims.specs.Published as Pub
-use Rattle.store.specs.Shows.{plain, ChannelShows}
+use Rattle.tables.specs.Shows.{plain, ChannelShows}
 
 -- a call whose names are in range answers n and leaves ds, as the published channel's operation x does
 pub record Goes (cs : List ℕ) (w : ChannelState Pub.Letter) (x : ChannelAction Pub.Letter) (n : ℕ) (ds : List ℕ) : Type 0 where

@@ -20,17 +20,17 @@ use Rattle.claims.specs.Steps.{good}
 use Rattle.claims.specs.Refusals.{performRefusal}
 use Rattle.claims.specs.Refusals as R
 use Rattle.claims.specs.Published.{Published, setCopy, performing, stage}
-use Rattle.store.specs.declared.Doing.{Doing}
-use Rattle.store.specs.declared.Doing.the-variants.{Quiet, AskingRead, AskingUpdate, Waiting, DoneRead, DoneUpdate}
-use Rattle.store.specs.Layout.{copyWord, homeOf, holds, copyOf}
-use Rattle.store.specs.Doings.{doingAt, doingStored}
+use Rattle.tables.specs.declared.Doing.{Doing}
+use Rattle.tables.specs.declared.Doing.the-variants.{Quiet, AskingRead, AskingUpdate, Waiting, DoneRead, DoneUpdate}
+use Rattle.tables.specs.Layout.{copyWord, homeOf, holds, copyOf}
+use Rattle.tables.specs.Doings.{doingAt, doingStored}
 use Rattle.store.specs.Perform.{alone, performReadNumber, performReadWords, performUpdateNumber, copyUpdated, performUpdateWords, performNumberOf, performWordsOf, performNumber, performWords}
-use Rattle.store.specs.Sized.{doingFits}
+use Rattle.tables.specs.Sized.{doingFits}
 use Rattle.store.specs.Step.{outcome}
-use Rattle.store.specs.Shows.{statusOf}
+use Rattle.tables.specs.Shows.{statusOf}
 use Rattle.store.specs.Demand2.{StepFollows}
-use Rattle.store.proofs.Showing.{copy-show}
-use Rattle.store.proofs.Sizing.{copy-fit}
+use Rattle.tables.proofs.Showing.{copy-show}
+use Rattle.tables.proofs.Sizing.{copy-fit}
 use Rattle.store.proofs.Standing.{Ready, home-there, holds-is, registers-ready, follows}
 use Rattle.store.proofs.RequestLaw.{doing-ready}
 

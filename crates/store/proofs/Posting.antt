@@ -15,11 +15,11 @@ use Rattle.channel.specs.Layout.{cardsOf, tasksOf, registersOf}
 use Rattle.channel.proofs.Offered.{cards-most, tasks-most, registers-most, fits-of}
 use Rattle.claims.specs.Refusals.{outboxRoom}
 use Rattle.claims.specs.Published.{Published, post}
-use Rattle.store.specs.Layout.{onlyCard}
-use Rattle.store.specs.Outbox.{outCountOf, roomy, posted, letterFor}
-use Rattle.store.proofs.Words.{posted-long}
-use Rattle.store.proofs.Showing.{post-show}
-use Rattle.store.proofs.Sizing.{post-fit}
+use Rattle.tables.specs.Layout.{onlyCard}
+use Rattle.tables.specs.Outbox.{outCountOf, roomy, posted, letterFor}
+use Rattle.tables.proofs.Words.{posted-long}
+use Rattle.tables.proofs.Showing.{post-show}
+use Rattle.tables.proofs.Sizing.{post-fit}
 use Rattle.store.proofs.Standing.{Ready, registers-ready, count-is}
 
 -- the set of one present card

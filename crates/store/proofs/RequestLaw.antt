@@ -19,18 +19,18 @@ use Rattle.claims.specs.Steps.{good}
 use Rattle.claims.specs.Refusals.{requestRefusal, reportRefusal}
 use Rattle.claims.specs.Published.{Published, setStatus, requesting, effect, stage}
 use Rattle.claims.specs.PublishedRun.{valueOf}
-use Rattle.store.specs.declared.Doing.{Doing}
-use Rattle.store.specs.declared.Doing.the-variants.{Quiet, AskingRead, AskingUpdate, Waiting, DoneRead, DoneUpdate}
-use Rattle.store.specs.Layout.{requestsWord, requestsOf}
-use Rattle.store.specs.Doings.{doingAt, doingStored}
+use Rattle.tables.specs.declared.Doing.{Doing}
+use Rattle.tables.specs.declared.Doing.the-variants.{Quiet, AskingRead, AskingUpdate, Waiting, DoneRead, DoneUpdate}
+use Rattle.tables.specs.Layout.{requestsWord, requestsOf}
+use Rattle.tables.specs.Doings.{doingAt, doingStored}
 use Rattle.store.specs.Requests.{isQuiet, requestNumber, requestWords, reportOf, reportAnswer, reportWords}
-use Rattle.store.specs.Sized.{doingFits}
+use Rattle.tables.specs.Sized.{doingFits}
 use Rattle.store.specs.Step.{outcome}
-use Rattle.store.specs.Shows.{statusOf, RegistersShow}
+use Rattle.tables.specs.Shows.{statusOf, RegistersShow}
 use Rattle.store.specs.Demand2.{StepFollows}
-use Rattle.store.proofs.Words.{doing-long}
-use Rattle.store.proofs.Showing.{requests-show, doing-show}
-use Rattle.store.proofs.Sizing.{requests-fit, doing-fit}
+use Rattle.tables.proofs.Words.{doing-long}
+use Rattle.tables.proofs.Showing.{requests-show, doing-show}
+use Rattle.tables.proofs.Sizing.{requests-fit, doing-fit}
 use Rattle.store.proofs.Standing.{Ready, stands, registers-ready, follows}
 
 module _ (rs cs : List ℕ) (P : Placement) (s : Published) (z : Ready rs cs P s) (t : ℕ) (there : t < tasksOf cs) where

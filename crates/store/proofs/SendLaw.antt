@@ -21,16 +21,16 @@ use Rattle.claims.specs.Steps.{good}
 use Rattle.claims.specs.Refusals.{outboxRoom, updateRoom, sendReadRefusal, sendUpdateRefusal}
 use Rattle.claims.specs.Refusals as R
 use Rattle.claims.specs.Published.{Published, sending, sendingRead, sendingUpdate, stage}
-use Rattle.store.specs.declared.Doing.{Doing}
-use Rattle.store.specs.declared.Doing.the-variants.{Quiet, AskingRead, AskingUpdate, Waiting, DoneRead, DoneUpdate}
-use Rattle.store.specs.Layout.{homeOf, holdersOf, holds}
-use Rattle.store.specs.Doings.{doingAt}
-use Rattle.store.specs.Outbox.{roomy}
+use Rattle.tables.specs.declared.Doing.{Doing}
+use Rattle.tables.specs.declared.Doing.the-variants.{Quiet, AskingRead, AskingUpdate, Waiting, DoneRead, DoneUpdate}
+use Rattle.tables.specs.Layout.{homeOf, holdersOf, holds}
+use Rattle.tables.specs.Doings.{doingAt}
+use Rattle.tables.specs.Outbox.{roomy}
 use Rattle.store.specs.Perform.{alone}
 use Rattle.store.specs.Send.{sent, sendReadNumber, sendReadWords, sendUpdateNumber, sendUpdateWords, readNumberOf, readWordsOf, updateNumberOf, updateWordsOf, readSentNumber, readSentWords, updateSentNumber, updateSentWords}
-use Rattle.store.specs.Sized.{doingFits}
+use Rattle.tables.specs.Sized.{doingFits}
 use Rattle.store.specs.Step.{outcome}
-use Rattle.store.specs.Shows.{statusOf}
+use Rattle.tables.specs.Shows.{statusOf}
 use Rattle.store.specs.Demand2.{StepFollows}
 use Rattle.store.proofs.Standing.{Ready, holds-is, follows}
 use Rattle.store.proofs.RequestLaw.{doing-ready}

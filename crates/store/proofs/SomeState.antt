@@ -8,9 +8,9 @@ use Rattle.channel.specs.Layout.{cardsOf, tasksOf, registersOf}
 use Rattle.automaton.specs.Renaming.{channel-map}
 use Rattle.channel.proofs.Offered.{shown}
 use Rattle.claims.specs.Published.{Published}
-use Rattle.store.specs.Layout.{requestsOf, homeOf, holdersOf, primaryOf, copyOf}
-use Rattle.store.specs.Doings.{doingAt}
-use Rattle.store.specs.Shows.{statusOf, plain, outboxOf, StoreShows}
+use Rattle.tables.specs.Layout.{requestsOf, homeOf, holdersOf, primaryOf, copyOf}
+use Rattle.tables.specs.Doings.{doingAt}
+use Rattle.tables.specs.Shows.{statusOf, plain, outboxOf, StoreShows}
 
 module _ (rs cs : List ℕ) where
   abbrev placementIn : Placement

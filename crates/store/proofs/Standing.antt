@@ -16,13 +16,13 @@ use Rattle.claims.specs.Command.{Command}
 use Rattle.claims.specs.Steps.{good}
 use Rattle.claims.specs.Published.{Published, effect, commandRefusal}
 use Rattle.claims.specs.PublishedRun.{valueAt}
-use Rattle.store.specs.Layout.{holds}
-use Rattle.store.specs.Outbox.{outCountOf}
-use Rattle.store.specs.Sized.{registersSized, storeSized}
+use Rattle.tables.specs.Layout.{holds}
+use Rattle.tables.specs.Outbox.{outCountOf}
+use Rattle.tables.specs.Sized.{registersSized, storeSized}
 use Rattle.store.specs.Step.{outcome}
-use Rattle.store.specs.Shows.{outboxOf, RegistersShow, ChannelShows}
+use Rattle.tables.specs.Shows.{outboxOf, RegistersShow, ChannelShows}
 use Rattle.store.specs.Demand2.{Stands, StepFollows}
-use Rattle.store.proofs.Sizing.{RegistersFit, fit-of, of-fit}
+use Rattle.tables.proofs.Sizing.{RegistersFit, fit-of, of-fit}
 
 -- the two memories, part by part
 pub record Ready (rs cs : List ℕ) (P : Placement) (s : Published) : Type 0 where

@@ -16,17 +16,17 @@ use Rattle.channel.specs.Layout.{cardsOf, tasksOf, registersOf}
 use Rattle.channel.specs.Begin.{beginMemory}
 use Rattle.channel.proofs.Offered.{begin-follows, begun-sized, begun-length}
 use Rattle.claims.specs.Published.{begin}
-use Rattle.store.specs.Layout.{homeWord, kindWord, holdersWord, primaryWord, copyWord, outHeadWord, outCountWord}
-use Rattle.store.specs.Doings.{doingOf, doingAt}
-use Rattle.store.specs.declared.Doing.the-variants.{Quiet}
-use Rattle.store.specs.Outbox.{outCountOf}
-use Rattle.store.specs.Sized.{doingFits}
-use Rattle.store.specs.Start.{homeSet, registerSet, startWords, startRegisters, startChannel}
-use Rattle.store.specs.Shows.{statusOf, outboxOf, RegistersShow}
+use Rattle.tables.specs.Layout.{homeWord, kindWord, holdersWord, primaryWord, copyWord, outHeadWord, outCountWord}
+use Rattle.tables.specs.Doings.{doingOf, doingAt}
+use Rattle.tables.specs.declared.Doing.the-variants.{Quiet}
+use Rattle.tables.specs.Outbox.{outCountOf}
+use Rattle.tables.specs.Sized.{doingFits}
+use Rattle.tables.specs.Start.{homeSet, registerSet, startWords, startRegisters, startChannel}
+use Rattle.tables.specs.Shows.{statusOf, outboxOf, RegistersShow}
 use Rattle.store.specs.Demand2.{Stands}
 use Rattle.store.specs.Run.{Store, started}
 use Rattle.store.specs.Starts.{Starts}
-use Rattle.store.proofs.Sizing.{RegistersFit}
+use Rattle.tables.proofs.Sizing.{RegistersFit}
 use Rattle.store.proofs.Standing.{Ready, stands}
 use Rattle.store.proofs.Placed.{channel-sizes, tasks-low, registers-low, home-placed, holders-placed, primary-placed}
 

@@ -9,11 +9,11 @@ use Rattle.names.specs.Placement.{Placement}
 use Rattle.channel.specs.Layout.{cardsOf, tasksOf, registersOf}
 use Rattle.claims.specs.Steps.{RawStep, decode}
 use Rattle.claims.specs.Published.{Published}
-use Rattle.store.specs.declared.Command.the-variants.{RequestRead, RequestUpdate, Perform, SendRead, SendUpdate, Dispatch, TakeBroadcast, TakeSingle, Deliver, Report}
-use Rattle.store.specs.declared.Decoded.{Decoded}
-use Rattle.store.specs.declared.Decoded.the-variants.{Good, Bad}
-use Rattle.store.specs.Decode.{decodeOf}
-use Rattle.store.specs.Sized.{doingFits, storeSized}
+use Rattle.commands.specs.declared.Command.the-variants.{RequestRead, RequestUpdate, Perform, SendRead, SendUpdate, Dispatch, TakeBroadcast, TakeSingle, Deliver, Report}
+use Rattle.commands.specs.declared.Decoded.{Decoded}
+use Rattle.commands.specs.declared.Decoded.the-variants.{Good, Bad}
+use Rattle.commands.specs.Decode.{decodeOf}
+use Rattle.tables.specs.Sized.{doingFits, storeSized}
 use Rattle.store.specs.Step.{outcome, taken, obeyed, advanced, stepped}
 use Rattle.store.specs.Demand2.{Stands, StepFollows}
 use Rattle.store.proofs.Standing.{Ready, ready, stands}
@@ -22,7 +22,7 @@ use Rattle.store.proofs.PerformLaw.{perform-follows}
 use Rattle.store.proofs.SendLaw.{send-read-follows, send-update-follows}
 use Rattle.store.proofs.TrafficLaw.{dispatch-follows, take-broadcast-follows, take-single-follows}
 use Rattle.store.proofs.DeliverLaw.{deliver-follows}
-use Rattle.store.proofs.DecodeLaw.{decodedShown, InRange, decode-is, decode-range}
+use Rattle.commands.proofs.DecodeLaw.{decodedShown, InRange, decode-is, decode-range}
 
 module _ (rs cs : List ℕ) (P : Placement) (s : Published) (z : Ready rs cs P s) where
   -- a decoded step

@@ -1,18 +1,16 @@
 -- Steps 6, 7 and 8.
 use Prim.Native.Nat.{ℕ, zero, suc, _+_, _%_, _<_}
 use mathlib.Core.Path.{_≡_, refl, sym, _∙_}
-use mathlib.Core.Bool.{true, false, _&&_}
+use mathlib.Core.Bool.{true, false}
 use mathlib.Core.List.{List, [], _∷_}
 use native.Mathlib.Omega.{arith}
 use borrow.Author.Tests.{lt-ltb, ne-eqb}
-use lib.Dec.{eqb, leb}
+use lib.Dec.{eqb}
 use lib.ListN.{length}
-use Rattle.lists.specs.Tests.{and-snd}
 use Rattle.lists.specs.Listings.{listing-zero}
 use Rattle.names.specs.declared.Card.{Card}
 use Rattle.names.specs.declared.Task.{Task}
 use Rattle.names.specs.declared.Letter.{Letter}
-use Rattle.names.specs.Letters.{kindAt}
 use Rattle.names.specs.Placement.{Placement}
 use Rattle.automaton.specs.State.{ChannelState, ChannelAction, dispatch, takeBroadcast, takeSingle, channelStep}
 use Rattle.channel.specs.Layout.{cardsOf, tasksOf, registersOf}
@@ -23,24 +21,24 @@ use Rattle.channel.specs.TakeBroadcast.{takeAnswer, takeMemory}
 use Rattle.channel.specs.TakeSingle.{singleAnswer, singleMemory}
 use Rattle.channel.specs.Sized.{wellSized}
 use Rattle.channel.specs.MemoryCalls.{SameSizes}
-use Rattle.channel.proofs.Offered.{cards-most, tasks-most, registers-most, same-cards, same-tasks, same-registers, fits-same}
+use Rattle.channel.proofs.Offered.{cards-most, tasks-most, registers-most, same-cards, same-tasks, same-registers, block-sizes, block-letter, fits-is, fits-of}
 use Rattle.channel.proofs.OfferedCalls.{dispatch-passes, take-broadcast-passes, take-single-passes, dispatch-refusal, take-broadcast-refusal, take-single-refusal}
 use Rattle.claims.specs.Command as Step
 use Rattle.claims.specs.Steps.{good}
 use Rattle.claims.specs.Published.{Published, mail, withChannel, dispatching}
 use Rattle.claims.specs.Published as Pub
-use Rattle.store.specs.declared.Doing.{Doing}
-use Rattle.store.specs.declared.Doing.the-variants.{Quiet, AskingRead, AskingUpdate, Waiting, DoneRead, DoneUpdate}
-use Rattle.store.specs.Doings.{doingAt}
-use Rattle.store.specs.Outbox.{outHeadOf, outCountOf, outPlace, firstOut, unposted}
+use Rattle.tables.specs.declared.Doing.{Doing}
+use Rattle.tables.specs.declared.Doing.the-variants.{Quiet, AskingRead, AskingUpdate, Waiting, DoneRead, DoneUpdate}
+use Rattle.tables.specs.Doings.{doingAt}
+use Rattle.tables.specs.Outbox.{outHeadOf, outCountOf, outPlace, firstOut, unposted}
 use Rattle.store.specs.Traffic.{dispatchNumber, dispatchRegisters, dispatchChannel}
-use Rattle.store.specs.Sized.{doingFits, outgoing, outFits}
+use Rattle.tables.specs.Sized.{doingFits, outFits}
 use Rattle.store.specs.Step.{outcome}
-use Rattle.store.specs.Shows.{plain, outboxOf, RegistersShow, ChannelShows}
+use Rattle.tables.specs.Shows.{plain, outboxOf, RegistersShow, ChannelShows}
 use Rattle.store.specs.Demand2.{StepFollows}
-use Rattle.store.proofs.Words.{unposted-long, unpost-drops}
-use Rattle.store.proofs.Showing.{unpost-show}
-use Rattle.store.proofs.Sizing.{RegistersFit, unpost-fit}
+use Rattle.tables.proofs.Words.{unposted-long, unpost-drops}
+use Rattle.tables.proofs.Showing.{unpost-show}
+use Rattle.tables.proofs.Sizing.{RegistersFit, unpost-fit}
 use Rattle.store.proofs.OverChannel.{Goes, goes}
 use Rattle.store.proofs.Standing.{Ready, follows}
 
@@ -57,7 +55,7 @@ doing-same ds cs e DoneUpdate = refl
 
 out-same : (rs ds cs : List ℕ) → SameSizes ds cs → (i k : ℕ) → outFits rs ds i k ≡ outFits rs cs i k
 unfolding outFits
-out-same rs ds cs e i k = rw (fits-same ds cs e (outgoing rs i (outPlace rs i k)))
+out-same rs ds cs e i k = block-sizes ds cs e rs (outPlace rs i k)
 
 pub fit-sizes : (rs ds cs : List ℕ) → SameSizes ds cs → RegistersFit rs cs → RegistersFit rs ds
 fit-sizes rs ds cs e f =
@@ -145,12 +143,14 @@ module _ (rs cs : List ℕ) (P : Placement) (s : Published) (z : Ready rs cs P s
     out-head : (n : ℕ) → outCountOf rs (i .0) ≡ suc n → s .out (i .0) ≡ plain (firstOut rs (i .0)) ∷ outboxOf (unposted rs (i .0)) (i .0)
     out-head n e = z .show .out= (i .0) card ∙ unpost-drops rs (i .0) (z .long) n e
 
-    -- which fits
+    -- which fits, whoever stands there as its sender: the card sends it
     head-goes : (n : ℕ) → outCountOf rs (i .0) ≡ suc n → fits cs (letterOf i (firstOut rs (i .0) .message) (firstOut rs (i .0) .to)) ≡ true
     unfolding outFits firstOut
     head-goes n e =
         let m : (outHeadOf rs (i .0) % 16 + 0) % 16 ≡ outHeadOf rs (i .0) % 16 = omega arith in
-        rw m at (and-snd (leb 1 (kindAt rs (outPlace rs (i .0) 0)) && leb (kindAt rs (outPlace rs (i .0) 0)) 4) (fits cs (outgoing rs (i .0) (outPlace rs (i .0) 0))) (z .fit .out (i .0) 0 card (omega arith)))
+        let f = fits-is cs (firstOut rs (i .0)) (rw m at (block-letter cs rs (outPlace rs (i .0) 0) (z .fit .out (i .0) 0 card (omega arith)))) in
+        fits-of cs (letterOf i (firstOut rs (i .0) .message) (firstOut rs (i .0) .to))
+        (record { task = f .task; register = f .register; body = f .body; sender = card; someone = f .someone; present = f .present })
 
     abbrev first : Letter
     first = firstOut rs (i .0)

@@ -11,11 +11,11 @@ use Rattle.names.specs.declared.Message.{Message}
 use Rattle.channel.specs.declared.Received.{Received}
 use Rattle.channel.specs.declared.Received.the-variants.{Got, NoSuchCard, Empty}
 use Rattle.channel.specs.Inbox.{receiveAnswer, receiveMemory}
-use Rattle.store.specs.declared.Doing.{Doing}
-use Rattle.store.specs.declared.Doing.the-variants.{DoneRead, DoneUpdate}
-use Rattle.store.specs.Layout.{homeOf, primaryOf, holds, copyOf, onlyCard}
-use Rattle.store.specs.Doings.{doingStored}
-use Rattle.store.specs.Outbox.{roomy, posted, letterFor}
+use Rattle.tables.specs.declared.Doing.{Doing}
+use Rattle.tables.specs.declared.Doing.the-variants.{DoneRead, DoneUpdate}
+use Rattle.tables.specs.Layout.{homeOf, primaryOf, holds, copyOf, onlyCard}
+use Rattle.tables.specs.Doings.{doingStored}
+use Rattle.tables.specs.Outbox.{roomy, posted, letterFor}
 use Rattle.store.specs.Perform.{copyUpdated}
 
 -- Card i delivers a message of task t on register x.

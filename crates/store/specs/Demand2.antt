@@ -10,9 +10,9 @@ use Rattle.names.specs.Placement.{Placement}
 use Rattle.claims.specs.Steps.{RawStep, Decoded, decode}
 use Rattle.claims.specs.Published.{Published}
 use Rattle.claims.specs.PublishedRun.{answerDecoded, afterDecoded}
-use Rattle.store.specs.Sized.{storeSized}
+use Rattle.tables.specs.Sized.{storeSized}
 use Rattle.store.specs.Step.{Outcome, outcome, stepped}
-use Rattle.store.specs.Shows.{StoreShows}
+use Rattle.tables.specs.Shows.{StoreShows}
 
 -- well-sized memories that show the placement and the state
 pub record Stands (rs cs : List ℕ) (P : Placement) (s : Published) : Type 0 where

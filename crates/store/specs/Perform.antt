@@ -5,10 +5,10 @@ use mathlib.Core.List.{List}
 use lib.ListN.{getD, set}
 use Rattle.names.specs.CardSet.{several}
 use Rattle.names.specs.Update.{updated}
-use Rattle.store.specs.declared.Doing.{Doing}
-use Rattle.store.specs.declared.Doing.the-variants.{Quiet, AskingRead, AskingUpdate, Waiting, DoneRead, DoneUpdate}
-use Rattle.store.specs.Layout.{copyWord, homeOf, holdersOf, holds, copyOf}
-use Rattle.store.specs.Doings.{doingAt, doingStored}
+use Rattle.tables.specs.declared.Doing.{Doing}
+use Rattle.tables.specs.declared.Doing.the-variants.{Quiet, AskingRead, AskingUpdate, Waiting, DoneRead, DoneUpdate}
+use Rattle.tables.specs.Layout.{copyWord, homeOf, holdersOf, holds, copyOf}
+use Rattle.tables.specs.Doings.{doingAt, doingStored}
 
 -- card i is the only holder of register x
 unfoldable pub alone : List ℕ → ℕ → ℕ → Bool

@@ -5,10 +5,10 @@ use mathlib.Core.List.{List}
 use lib.Dec.{eqb, ltb}
 use lib.ListN.{set}
 use Rattle.names.specs.declared.Answer.{Answer}
-use Rattle.store.specs.declared.Doing.{Doing}
-use Rattle.store.specs.declared.Doing.the-variants.{Quiet, AskingRead, AskingUpdate, Waiting, DoneRead, DoneUpdate}
-use Rattle.store.specs.Layout.{requestsWord, requestsOf}
-use Rattle.store.specs.Doings.{doingAt, doingStored}
+use Rattle.tables.specs.declared.Doing.{Doing}
+use Rattle.tables.specs.declared.Doing.the-variants.{Quiet, AskingRead, AskingUpdate, Waiting, DoneRead, DoneUpdate}
+use Rattle.tables.specs.Layout.{requestsWord, requestsOf}
+use Rattle.tables.specs.Doings.{doingAt, doingStored}
 
 -- an answer without a value
 abbrev pub bare : ℕ → Answer

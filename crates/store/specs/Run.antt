@@ -5,8 +5,8 @@ use mathlib.Core.List.{List, [], _∷_}
 use Rattle.names.specs.declared.Answer.{Answer}
 use Rattle.names.specs.Placement.{Placement}
 use Rattle.claims.specs.Steps.{RawStep}
-use Rattle.store.specs.Layout.{copyOf}
-use Rattle.store.specs.Start.{startRegisters, startChannel}
+use Rattle.tables.specs.Layout.{copyOf}
+use Rattle.tables.specs.Start.{startRegisters, startChannel}
 use Rattle.store.specs.Step.{advanced, stepped}
 
 -- the two memories

@@ -6,11 +6,11 @@ use mathlib.Core.List.{List}
 use lib.Dec.{eqb, leb}
 use Rattle.names.specs.declared.Body.{Body}
 use Rattle.names.specs.declared.Body.the-variants.{ReadDo, UpdateDo}
-use Rattle.store.specs.declared.Doing.{Doing}
-use Rattle.store.specs.declared.Doing.the-variants.{Quiet, AskingRead, AskingUpdate, Waiting, DoneRead, DoneUpdate}
-use Rattle.store.specs.Layout.{homeOf, holdersOf, holds, onlyCard}
-use Rattle.store.specs.Doings.{doingAt, doingStored}
-use Rattle.store.specs.Outbox.{roomy, posted, letterFor}
+use Rattle.tables.specs.declared.Doing.{Doing}
+use Rattle.tables.specs.declared.Doing.the-variants.{Quiet, AskingRead, AskingUpdate, Waiting, DoneRead, DoneUpdate}
+use Rattle.tables.specs.Layout.{homeOf, holdersOf, holds, onlyCard}
+use Rattle.tables.specs.Doings.{doingAt, doingStored}
+use Rattle.tables.specs.Outbox.{roomy, posted, letterFor}
 use Rattle.store.specs.Perform.{alone}
 
 -- a message of task t on register x joins its home's outbox, and the task waits

@@ -1,13 +1,17 @@
 -- What a start makes (01, "Who can cause which refusal": "A start made from a placement without a file meets 3, then 4, and no state is
 -- begun"; "No state reached by calls from a start ever gives 6").
+use Prim.Native.Nat.{_≤_}
 use mathlib.Core.Path.{_≡_}
 use mathlib.Core.Logic.{_≢_}
 use mathlib.Core.Bool.{true}
 use mathlib.Core.List.{List}
+use lib.ListN.{length}
+use Rattle.lists.specs.Histories.{In}
+use Rattle.names.specs.declared.Answer.{Answer}
 use Rattle.names.specs.Placement.{Placement, placementRefusal}
 use Rattle.claims.specs.Steps.{RawStep}
 use Rattle.claims.specs.Published.{begin}
-use Rattle.store.specs.Sized.{storeSized}
+use Rattle.tables.specs.Sized.{storeSized}
 use Rattle.store.specs.Demand2.{Stands}
 use Rattle.store.specs.Run.{Store, started, storeAfter, answersOf, answer, advanceAll, answersAdvancing}
 
@@ -23,6 +27,11 @@ pub record NeverSix : Type 0 where
       → storeSized (storeAfter (started P m) steps .registers) (storeAfter (started P m) steps .channel) ≡ true
   pub outcome : (P : Placement) → placementRefusal P ≡ 0 → (m : Store) (steps : List RawStep) (a : RawStep)
       → answer (storeAfter (started P m) steps) a .result ≢ 6
+
+-- 23 "a request after 65,535 taken": no list of at most 65,535 steps meets it, and so no accepted file
+abbrev pub NeverTwentyThree : Type 0
+NeverTwentyThree = (P : Placement) → placementRefusal P ≡ 0 → (m : Store) (steps : List RawStep) → length steps ≤ 65535
+    → (r : Answer) → In r (answersOf (started P m) steps) → r .result ≢ 23
 
 -- A run from a start need not check the state: well-sizedness is kept, so steps that do not check it leave and answer the same.
 pub record CheckedOnce : Type 0 where

@@ -7,18 +7,18 @@ use Rattle.channel.specs.Layout.{cardsOf, tasksOf, registersOf}
 use Rattle.channel.specs.Answers.{answerNumber}
 use Rattle.channel.specs.TakeBroadcast.{takeAnswer, takeMemory}
 use Rattle.channel.specs.TakeSingle.{singleAnswer, singleMemory}
-use Rattle.store.specs.declared.Doing.the-variants.{AskingRead, AskingUpdate}
-use Rattle.store.specs.declared.Command.{Command}
-use Rattle.store.specs.declared.Command.the-variants.{RequestRead, RequestUpdate, Perform, SendRead, SendUpdate, Dispatch, TakeBroadcast, TakeSingle, Deliver, Report}
-use Rattle.store.specs.declared.Decoded.{Decoded}
-use Rattle.store.specs.declared.Decoded.the-variants.{Good, Bad}
+use Rattle.tables.specs.declared.Doing.the-variants.{AskingRead, AskingUpdate}
+use Rattle.commands.specs.declared.Command.{Command}
+use Rattle.commands.specs.declared.Command.the-variants.{RequestRead, RequestUpdate, Perform, SendRead, SendUpdate, Dispatch, TakeBroadcast, TakeSingle, Deliver, Report}
+use Rattle.commands.specs.declared.Decoded.{Decoded}
+use Rattle.commands.specs.declared.Decoded.the-variants.{Good, Bad}
 use Rattle.store.specs.Requests.{bare, requestNumber, requestWords, reportAnswer, reportWords}
 use Rattle.store.specs.Perform.{performNumber, performWords}
 use Rattle.store.specs.Send.{readSentNumber, readSentWords, updateSentNumber, updateSentWords}
 use Rattle.store.specs.Traffic.{dispatchNumber, dispatchRegisters, dispatchChannel}
 use Rattle.store.specs.Deliver.{deliverNumber, deliverRegisters, deliverChannel}
-use Rattle.store.specs.Decode.{decodeOf}
-use Rattle.store.specs.Sized.{storeSized}
+use Rattle.commands.specs.Decode.{decodeOf}
+use Rattle.tables.specs.Sized.{storeSized}
 
 pub record Outcome : Type 0 where
   pub answer : Answer

@@ -8,7 +8,7 @@ use Rattle.names.specs.declared.Letter.{Letter}
 use Rattle.channel.specs.declared.Answer.{Answer}
 use Rattle.channel.specs.Answers.{answerNumber}
 use Rattle.channel.specs.Dispatch.{dispatchAnswer, dispatchMemory}
-use Rattle.store.specs.Outbox.{outCountOf, firstOut, unposted}
+use Rattle.tables.specs.Outbox.{outCountOf, firstOut, unposted}
 
 -- a card's letter handed to the channel: its answer, and the memory that it leaves
 abbrev pub handedAnswer : List ℕ → Card → Letter → Answer

@@ -1,12 +1,12 @@
 // Steps 1, 2 and 10: a task asks, and a done task reports.
 ghost use mathlib.Core.Path.{_≡_};
 ghost use Rattle.store.specs.Requests.{bare, isQuiet, requestNumber, requestWords, reportOf, reportAnswer, reportWords};
-use super::doings::load;
-use super::doings::store;
-use super::layout::REQUESTS;
-use crate::Doing;
 use names::Answer;
 use names::Task;
+use tables::Doing;
+use tables::doings::load;
+use tables::doings::store;
+use tables::layout::REQUESTS;
 
 // An answer without a value.
 pub(crate) fn bare(number: u8) -> Answer

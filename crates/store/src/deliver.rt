@@ -1,25 +1,25 @@
 // Step 9: the head of a card's inbox is delivered.
 ghost use mathlib.Core.Path.{_≡_};
 ghost use Rattle.names.specs.declared.Body.the-variants.{ReadDo, UpdateDo};
-ghost use Rattle.store.specs.Doings.{doingStored};
+ghost use Rattle.tables.specs.Doings.{doingStored};
 ghost use Rattle.store.specs.Deliver.{replied, isPrimary, repliesHere, applied, bodyNumber, bodyWords, messageNumber, messageWords, foundNumber, foundWords, deliverNumber, deliverRegisters, deliverChannel};
-use super::doings::store;
-use super::layout::copy;
-use super::layout::holds;
-use super::layout::home;
-use super::layout::only;
-use super::layout::primary;
-use super::outbox::post;
-use super::outbox::roomy;
 use super::perform::update_copy;
 use super::send::letter_for;
-use crate::Doing;
 use channel::Received;
 use names::Body;
 use names::Card;
 use names::Message;
 use names::Register;
 use names::Task;
+use tables::Doing;
+use tables::doings::store;
+use tables::layout::copy;
+use tables::layout::holds;
+use tables::layout::home;
+use tables::layout::only;
+use tables::layout::primary;
+use tables::outbox::post;
+use tables::outbox::roomy;
 
 // A card's reply to a task's card joins its outbox.
 fn reply(registers: &mut [u32; 1544], card: Card, task: Task, register: Register, body: Body)

@@ -1,19 +1,19 @@
 // Step 3: a task performs its request on its own card.
 ghost use mathlib.Core.Path.{_≡_};
 ghost use Rattle.store.specs.Perform.{alone, performReadNumber, performReadWords, performUpdateNumber, performUpdateWords, copyUpdated, performNumberOf, performWordsOf, performNumber, performWords};
-use super::doings::load;
-use super::doings::store;
-use super::layout::COPIES;
-use super::layout::card_place;
-use super::layout::copy;
-use super::layout::holders;
-use super::layout::holds;
-use super::layout::home;
-use super::layout::register_place;
-use crate::Doing;
 use names::Card;
 use names::Register;
 use names::Task;
+use tables::Doing;
+use tables::doings::load;
+use tables::doings::store;
+use tables::layout::COPIES;
+use tables::layout::card_place;
+use tables::layout::copy;
+use tables::layout::holders;
+use tables::layout::holds;
+use tables::layout::home;
+use tables::layout::register_place;
 
 // Whether a card is the only holder of a register.
 pub(crate) fn alone(registers: &[u32; 1544], register: Register, card: Card) -> bool

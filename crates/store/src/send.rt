@@ -1,23 +1,23 @@
 // Steps 4 and 5: a task's message joins its home's outbox.
 ghost use mathlib.Core.Path.{_≡_};
-ghost use Rattle.store.specs.Outbox.{letterFor};
+ghost use Rattle.tables.specs.Outbox.{letterFor};
 ghost use Rattle.store.specs.Send.{sent, sendReadNumber, sendReadWords, sendUpdateNumber, sendUpdateWords, readNumberOf, readWordsOf, updateNumberOf, updateWordsOf, readSentNumber, readSentWords, updateSentNumber, updateSentWords};
-use super::doings::load;
-use super::doings::store;
-use super::layout::holders;
-use super::layout::holds;
-use super::layout::home;
-use super::layout::only;
-use super::outbox::post;
-use super::outbox::roomy;
 use super::perform::alone;
-use crate::Doing;
 use names::Body;
 use names::Card;
 use names::Letter;
 use names::Message;
 use names::Register;
 use names::Task;
+use tables::Doing;
+use tables::doings::load;
+use tables::doings::store;
+use tables::layout::holders;
+use tables::layout::holds;
+use tables::layout::home;
+use tables::layout::only;
+use tables::outbox::post;
+use tables::outbox::roomy;
 
 // A message of a task on a register.
 pub(crate) fn letter_for(from: Card, task: Task, register: Register, body: Body, to: u32) -> Letter

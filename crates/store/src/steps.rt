@@ -4,18 +4,18 @@ ghost use Rattle.store.specs.Step.{outcome, taken, obeyed, advanced, ste
 use super::asking::bare;
 use super::asking::report;
 use super::asking::request;
-use super::decode::decode;
 use super::deliver::deliver;
 use super::perform::perform;
 use super::send::send_read;
 use super::send::send_update;
-use super::sized::well_sized;
 use super::traffic::dispatch;
 use super::traffic::number_of;
-use crate::Command;
-use crate::Decoded;
-use crate::Doing;
+use commands::Command;
+use commands::Decoded;
+use commands::decode;
 use names::Answer;
+use tables::Doing;
+use tables::sized::well_sized;
 
 // A decoded step.
 fn take(registers: &mut [u32; 1544], channel: &mut [u32; 4808], command: Command) -> Answer

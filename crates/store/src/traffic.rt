@@ -2,11 +2,11 @@
 ghost use mathlib.Core.Path.{_≡_};
 ghost use Rattle.channel.specs.Answers.{answerNumber};
 ghost use Rattle.store.specs.Traffic.{handedAnswer, handedMemory, dispatchNumber, dispatchRegisters, dispatchChannel};
-use super::outbox::count;
-use super::outbox::first;
-use super::outbox::unpost;
 use names::Card;
 use names::Letter;
+use tables::outbox::count;
+use tables::outbox::first;
+use tables::outbox::unpost;
 
 // Document 01's number of the channel's answer.
 pub(crate) fn number_of(answer: channel::Answer) -> u8

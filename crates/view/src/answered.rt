@@ -3,33 +3,15 @@ use super::text::count;
 use super::text::say;
 use super::text::word;
 
-// A phrase for each refusal of a step (01, "Who can cause which refusal").
+// A phrase for each refusal of a step (01, "Who can cause which refusal"), by its number.
 fn phrase(result: u32) {
-    if result < 10 {
-        word(b";;;;;;the state is ill sized", result);
-        return;
-    }
-    if result < 20 {
-        word(
-            b"unknown code;an unnamed byte is not zero;no such task;no such register;no such card;no such function",
-            result - 10,
-        );
-        return;
-    }
-    if result < 30 {
-        word(
-            b"the task is not quiet;the task does not ask this or is not done;the copies lie otherwise;no request is left",
-            result - 20,
-        );
-        return;
-    }
     word(
-        b"outbox empty;no broadcast to take;nothing of that task in flight;inbox empty;some card would be too far behind;too many broadcasts in the inbox",
-        result - 30,
+        b";;;;;;the state is ill sized;;;;unknown code;an unnamed byte is not zero;no such task;no such register;no such card;no such function;;;;;the task is not quiet;the task does not ask this or is not done;the copies lie otherwise;no request is left;;;;;;;outbox empty;no broadcast to take;nothing of that task in flight;inbox empty;some card would be too far behind;too many broadcasts in the inbox",
+        result,
     );
 }
 
-pub(crate) fn show(result: u32) {
+fn show(result: u32) {
     if result == 0 {
         say(b"taken");
         return;
@@ -41,7 +23,7 @@ pub(crate) fn show(result: u32) {
 }
 
 // What each task asked last: the code of its last request taken, so that a report of a read is known from one of an update.
-pub(crate) fn note(requests: &mut [u8; 16], code: u32, task: u32, result: u32) {
+fn note(requests: &mut [u8; 16], code: u32, task: u32, result: u32) {
     if result != 0 {
         return;
     }
@@ -52,7 +34,7 @@ pub(crate) fn note(requests: &mut [u8; 16], code: u32, task: u32, result: u32) {
 }
 
 // The value that a taken report of a read gave.
-pub(crate) fn value(requests: &[u8; 16], code: u32, task: u32, result: u32, value: u32) {
+fn value(requests: &[u8; 16], code: u32, task: u32, result: u32, value: u32) {
     if result != 0 {
         return;
     }
@@ -64,4 +46,12 @@ pub(crate) fn value(requests: &[u8; 16], code: u32, task: u32, result: u32, valu
     }
     say(b", value ");
     count(value);
+}
+
+// What was answered to a step of a task.
+pub(crate) fn tell(requests: &mut [u8; 16], code: u32, task: u32, result: u32, read: u32) {
+    show(result);
+    value(requests, code, task, result, read);
+    note(requests, code, task, result);
+    say(b"\n");
 }

@@ -79,13 +79,20 @@ fn raw(code: u32, argument: &[u8]) {
     pad(32, 56);
 }
 
-pub(crate) fn show(code: u32, argument: &[u8], result: u32) {
-    if !readable(code, argument, result) {
-        raw(code, argument);
-        return;
-    }
+fn put(code: u32, argument: &[u8]) {
     name(code);
     whose(code, argument);
     which(code, argument);
     change(code, argument);
+}
+
+// Step k.
+pub(crate) fn show(k: u32, code: u32, argument: &[u8], result: u32) {
+    right(k, 4);
+    say(b"  ");
+    if !readable(code, argument, result) {
+        raw(code, argument);
+        return;
+    }
+    put(code, argument);
 }

@@ -11,19 +11,22 @@ use names::placement::byte;
 use names::wide;
 use text::count;
 use text::number;
-use text::right;
 use text::say;
 use text::word;
 
 // Why a file is refused (01, "Who can cause which refusal").
-fn refused_file(number: u8) {
-    say(b"refused ");
-    count(number as u32);
-    say(b": ");
+fn why(number: u32) {
     word(
         b";too short for its sizes;too long;a size out of range;no copy, a copy or home on an absent card, or a primary without a copy;output too short",
-        number as u32,
+        number,
     );
+}
+
+fn refused_file(number: u32) {
+    say(b"refused ");
+    count(number);
+    say(b": ");
+    why(number);
     say(b"\n");
 }
 
@@ -31,21 +34,10 @@ fn refused_file(number: u8) {
 fn step(file: &[u8], out: &[u8], requests: &mut [u8; 16], n: u32, k: u32) {
     let code = runfile::code(file, k) as u32;
     let argument = runfile::argument(file, k);
-    let task = byte(&argument, 0);
     let result = byte(out, 2 + wide(k));
-    right(k, 4);
-    say(b"  ");
-    asked::show(code, &argument, result);
-    answered::show(result);
-    answered::value(
-        requests,
-        code,
-        task,
-        result,
-        number(out, 2 + wide(n) + 4 * wide(k)),
-    );
-    answered::note(requests, code, task, result);
-    say(b"\n");
+    let value = number(out, 2 + wide(n) + 4 * wide(k));
+    asked::show(k, code, &argument, result);
+    answered::tell(requests, code, byte(&argument, 0), result, value);
 }
 
 fn steps(file: &[u8], out: &[u8], n: u32) {
@@ -72,7 +64,7 @@ fn totals(taken: u32, refused: u32) {
 fn view(file: &[u8], out: &mut [u8]) {
     let answered = runfile::answer(file, out);
     if answered.refusal != 0 {
-        refused_file(answered.refusal);
+        refused_file(answered.refusal as u32);
         return;
     }
     let sizes = runfile::sizes_of(file);

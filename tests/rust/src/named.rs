@@ -67,6 +67,7 @@ pub fn runs() -> Vec<Named> {
         k8(),
         k9(),
         k10(),
+        two_held(),
         k11(),
         k12(),
     ]
@@ -169,6 +170,42 @@ fn k10() -> Named {
         (simple(10, 0), TAKEN),
     ];
     told("K10", three_cards(), &steps)
+}
+
+/// Two messages of one tag join "in order of arrival" (step 7): task 2's was sent last and reaches
+/// card 1 first, so the last value there is task 0's.
+fn two_held() -> Named {
+    let steps = [
+        // Broadcast 1, as in K9; cards 0 and 2 take it.
+        (set(2, 0, 7), TAKEN),
+        (simple(5, 2), TAKEN),
+        (simple(6, 2), TAKEN),
+        (simple(7, 0), TAKEN),
+        (simple(9, 0), TAKEN),
+        (simple(7, 2), TAKEN),
+        (simple(9, 2), TAKEN),
+        (simple(10, 2), TAKEN),
+        // Two settings of register 1, both tagged 1.
+        (set(0, 1, 9), TAKEN),
+        (simple(5, 0), TAKEN),
+        (simple(6, 0), TAKEN),
+        (set(2, 1, 4), TAKEN),
+        (simple(5, 2), TAKEN),
+        (simple(6, 2), TAKEN),
+        // Both are held at card 1.
+        (simple(8, 2), TAKEN),
+        (simple(8, 0), TAKEN),
+        // Card 1 takes broadcast 1 and delivers all three.
+        (simple(7, 1), TAKEN),
+        (simple(9, 1), TAKEN),
+        (simple(9, 1), TAKEN),
+        (simple(9, 1), TAKEN),
+        // Task 1 reads what came last.
+        (read(1, 1), TAKEN),
+        (simple(3, 1), TAKEN),
+        (simple(10, 1), (0, 9)),
+    ];
+    told("two-held", three_cards(), &steps)
 }
 
 /// Two cards with a copy each and a task on card 0.

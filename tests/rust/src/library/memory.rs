@@ -149,10 +149,13 @@ pub fn written(state: &State, random: &mut Random) -> Store {
         let head = random.between(0, 15);
         put(words, outbox(number), &[head as u32, queue.len() as u32]);
         for (place, message) in queue.iter().enumerate().take(16) {
+            // Whose message it is and its tag come with step 6.
+            let sender = random.between(0, placement.cards as usize - 1);
+            let tag = random.pick(&[0, 1, 65_535]);
             put(
                 words,
                 outbox_block(number, head + place),
-                &block(message, number, 0),
+                &block(message, sender, tag),
             );
         }
     }

@@ -57,8 +57,9 @@ fn queue(random: &mut Random, most: usize) -> usize {
     }
 }
 
-/// Any well-sized state. Beyond document 01's list, a message in an inbox has the card among
-/// its destinations, and one held or in flight goes to a single card (docs/DECISIONS.md).
+/// Any well-sized state. Beyond document 01's list, a message in flight has one destination, and
+/// a broadcast more than one (docs/DECISIONS.md). What lies in an inbox or is held may be for other
+/// cards, and a task's slot may have another task's message: document 01 calls none of it ill-sized.
 pub fn any(random: &mut Random) -> State {
     let placement = any_placement(random);
     let (cards, all) = (placement.cards as usize, all(&placement));
@@ -92,24 +93,34 @@ pub fn any(random: &mut Random) -> State {
             channel.outbox[card].push_back(message(random, &placement, to));
         }
         let broadcasts = random.pick(&[0, 50, 100]);
+        let stray = random.pick(&[0, 0, 50]);
         for _ in 0..queue(random, 48) {
             let others = match cards > 1 && random.percent(broadcasts) {
                 true => several(random, all),
                 false => 0,
             };
-            let to = only(card) | others;
+            let to = match random.percent(stray) {
+                true => random.byte(1, all),
+                false => only(card) | others,
+            };
             channel.inbox[card].push_back(message(random, &placement, to));
         }
         for _ in 0..queue(random, 16) {
-            let held = tagged(random, &placement, card, channel.taken[card]);
+            let to = match random.percent(stray) {
+                true => random.byte(1, all),
+                false => only(card),
+            };
+            let held = tagged(random, &placement, to, channel.taken[card]);
             channel.held[card].push(held);
         }
     }
     for number in 0..channel.flight.len() {
         if random.percent(50) {
             let card = random.between(0, cards - 1);
-            let mut single = tagged(random, &placement, card, channel.taken[card]);
-            single.message.task = number;
+            let mut single = tagged(random, &placement, only(card), channel.taken[card]);
+            if random.percent(80) {
+                single.message.task = number;
+            }
             channel.flight[number] = Some(single);
         }
     }
@@ -126,14 +137,9 @@ fn several(random: &mut Random, all: Cards) -> Cards {
     }
 }
 
-/// A single message to a card, with a tag about the number taken there.
-pub(super) fn tagged(
-    random: &mut Random,
-    placement: &Placement,
-    card: usize,
-    taken: u32,
-) -> Tagged {
-    let message = message(random, placement, only(card));
+/// A message with a tag about a number taken.
+pub(super) fn tagged(random: &mut Random, placement: &Placement, to: Cards, taken: u32) -> Tagged {
+    let message = message(random, placement, to);
     let tag = random.pick(&[taken, taken + 1, taken + 1, taken + 2, 65_535, 0]);
     Tagged {
         message,

@@ -67,7 +67,7 @@ pub fn stretch(random: &mut Random, state: &mut State) {
             state.channel.inbox[card].resize(most, more);
         }
         9 => {
-            let more = tagged(random, &placement, card, made);
+            let more = tagged(random, &placement, only(card), made);
             let most = random.pick(&[16, 17]);
             state.channel.held[card].resize(most, more);
         }

@@ -192,7 +192,7 @@ fn rows(store: &Store) -> Vec<Row> {
             name,
             channel,
             at + 1,
-            &[(15, !flight), (16, false), (MOST, false)],
+            &[(0, true), (15, true), (16, false), (MOST, false)],
         );
         row(
             name,
@@ -207,22 +207,22 @@ fn rows(store: &Store) -> Vec<Row> {
             &[(1, true), (4, true), (0, false), (5, false), (MOST, false)],
         );
         row(name, channel, at + 4, &[(0, true), (MOST, true)]);
-        // What leaves an outbox has its card for sender, whatever stands there.
-        let past = name == "outbox";
         row(
             name,
             channel,
             at + memory::SENDER,
-            &[(7, true), (8, past), (MOST, past)],
+            &[(0, true), (7, true), (8, false), (MOST, false)],
         );
-        row(
-            name,
-            channel,
-            at + 6,
-            &[(0, false), (256, false), (MOST, false)],
-        );
-    }
-    for (name, channel, at) in [blocks[2], blocks[3]] {
+        // Any present cards, but one alone in flight and more than one of a broadcast.
+        let to = [
+            (2, name != "broadcast"),
+            (3, !flight),
+            (255, !flight),
+            (0, false),
+            (256, false),
+            (MOST, false),
+        ];
+        row(name, channel, at + 6, &to);
         row(
             name,
             channel,

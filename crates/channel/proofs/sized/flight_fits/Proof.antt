@@ -6,9 +6,6 @@ use Rattle.channel.proofs.sized.flight_fits.Tie as tie
 flight-block-requires : tie.Need-flight-block-requires
 flight-block-requires c κs = search needs
 
-task-at-requires : tie.Need-task-at-requires
-task-at-requires c κs = search needs
-
 to-at-requires : tie.Need-to-at-requires
 to-at-requires c κs = search needs
 
@@ -23,14 +20,13 @@ single-requires c κs = search needs
 
 returns : tie.Need-returns
 unfolding flightFits
-returns c = rw (← (c .before .before .before .before .before .before .before .flight-block .ensures .0), ← (c .before .before .before .before .no-flight .ensures), ← (c .before .before .before .block-fits .ensures), ← (c .before .before .before .before .before .before .task-at .ensures), ← (c .before .before .before .before .before .to-at .ensures), ← (c .single .ensures))
+returns c = rw (← (c .before .before .before .before .flight-block .ensures .0), ← (c .before .before .no-flight .ensures), ← (c .before .block-fits .ensures), ← (c .before .before .before .to-at .ensures), ← (c .single .ensures))
 
 pub flight-fits-spec : {M : Type 1} → statement M
 flight-fits-spec =
     tie.close
     (tie.spec
     flight-block-requires
-    task-at-requires
     to-at-requires
     no-flight-requires
     block-fits-requires

@@ -6,20 +6,13 @@ use Rattle.channel.proofs.sized.inbox_fits.Tie as tie
 place-of-requires : tie.Need-place-of-requires
 place-of-requires c κs = search needs
 
-to-at-requires : tie.Need-to-at-requires
-to-at-requires c κs = search needs
-
 block-fits-requires : tie.Need-block-fits-requires
 block-fits-requires c κs = search needs
 
-member-requires : tie.Need-member-requires
-member-requires c κs = search needs
-
 returns : tie.Need-returns
 unfolding inboxFits
-returns c = rw (← (c .before .before .before .place-of .ensures .0), ← (c .before .before .to-at .ensures), ← (c .before .block-fits .ensures), ← (c .member .ensures))
+returns c = rw (← (c .before .place-of .ensures .0)) (c .block-fits .ensures)
 
 pub inbox-fits-spec : {M : Type 1} → statement M
 inbox-fits-spec =
-    tie.close
-    (tie.spec place-of-requires to-at-requires block-fits-requires member-requires returns)
+    tie.close (tie.spec place-of-requires block-fits-requires returns)

@@ -1,7 +1,7 @@
 use mathlib.Core.Path.{_≡_}
 use mathlib.Core.List.{append-nil}
 use Prim.Native.Nat.{_+_, _*_}
-use Rattle.runfile.specs.AnswerFile.{wordStored, fourBytes, putAnswer}
+use Rattle.runfile.specs.AnswerFile.{wordStored, fourBytes, valuesAt, putAnswer}
 use native.Mathlib.Omega.{arith}
 use lib.ListN.{set, drop, length-set, length-drop, length-take, length-append}
 use Rattle.lists.specs.Parts.{tail-part, tail-rest, sets-in-tail}
@@ -40,8 +40,8 @@ returns : tie.Need-returns
 unfolding putAnswer wordStored
 returns c = let n = c .before .before .before .before .before .args .n in let k = c .before .before .before .before .before .args .k in let v = c .before .before .before .before .before .args .answer .value in
     let ys = set (c .before .before .before .before .before .args .out .now) (2 + k) (c .before .before .before .before .before .args .answer .result) in
-    let e : c .before .before .fill-value .last .0 ≡ wordStored (4 * k) v (drop (2 + n) ys) = rw (← tail-part (2 + n) ys) (c .before .before .fill-value .ensures) in
-    rw (e, tail-rest (2 + n) ys, append-nil (wordStored (4 * k) v (drop (2 + n) ys))) (sets-in-tail (2 + n) ys (4 * k) (fourBytes v))
+    let e : c .before .before .fill-value .last .0 ≡ wordStored (4 * k) v (drop (valuesAt n) ys) = rw (← tail-part (valuesAt n) ys) (c .before .before .fill-value .ensures) in
+    rw (e, tail-rest (valuesAt n) ys, append-nil (wordStored (4 * k) v (drop (valuesAt n) ys))) (sets-in-tail (valuesAt n) ys (4 * k) (fourBytes v))
 
 pub put-answer-spec : {M : Type 1} → statement M
 put-answer-spec =

@@ -7,8 +7,8 @@ use Rattle.store.proofs.asking.report.Tie as tie
 use Rattle.store.proofs.asking.report.Reads as reads
 use Rattle.store.proofs.asking.report.Lts as lts
 use Rattle.store.proofs.asking.report_of.Reads as report-of-reads
-use Rattle.store.proofs.doings.load.Reads as load-reads
-use Rattle.store.proofs.doings.store.Reads as store-reads
+use Rattle.tables.proofs.doings.load.Reads as load-reads
+use Rattle.tables.proofs.doings.store.Reads as store-reads
 
 load-requires : tie.Need-load-requires
 load-requires c κs = search needs

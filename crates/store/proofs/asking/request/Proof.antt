@@ -8,8 +8,8 @@ use Rattle.store.proofs.asking.request.Tie as tie
 use Rattle.store.proofs.asking.request.Reads as reads
 use Rattle.store.proofs.asking.request.Lts as lts
 use Rattle.store.proofs.asking.quiet.Reads as quiet-reads
-use Rattle.store.proofs.doings.load.Reads as load-reads
-use Rattle.store.proofs.doings.store.Reads as store-reads
+use Rattle.tables.proofs.doings.load.Reads as load-reads
+use Rattle.tables.proofs.doings.store.Reads as store-reads
 
 load-requires : tie.Need-load-requires
 load-requires c κs = search needs

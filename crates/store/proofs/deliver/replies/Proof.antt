@@ -5,7 +5,7 @@ use mathlib.Core.List.{List}
 use borrow.Author.Tests.{not-true, not-false}
 use borrow.Author.Needs.{needs}
 use Rattle.lists.specs.Tests.{clash}
-use Rattle.store.specs.Layout.{homeOf, primaryOf, holds}
+use Rattle.tables.specs.Layout.{homeOf, primaryOf, holds}
 use Rattle.store.specs.Deliver.{isPrimary, repliesHere}
 use Rattle.store.proofs.deliver.replies.Statement.{statement}
 use Rattle.store.proofs.deliver.replies.Tie as tie

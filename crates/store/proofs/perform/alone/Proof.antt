@@ -8,8 +8,8 @@ use Rattle.store.proofs.perform.alone.Tie as tie
 use Rattle.store.proofs.perform.alone.Reads as reads
 use Rattle.store.proofs.perform.alone.Lts as lts
 use Rattle.names.proofs.several.Reads as several-reads
-use Rattle.store.proofs.layout.holders.Reads as holders-reads
-use Rattle.store.proofs.layout.holds.Reads as holds-reads
+use Rattle.tables.proofs.layout.holders.Reads as holders-reads
+use Rattle.tables.proofs.layout.holds.Reads as holds-reads
 
 holds-requires : tie.Need-holds-requires
 holds-requires c κs = search needs

@@ -5,7 +5,7 @@ use Rattle.store.proofs.perform.perform.Statement.{statement}
 use Rattle.store.proofs.perform.perform.Tie as tie
 use Rattle.store.proofs.perform.perform.Reads as reads
 use Rattle.store.proofs.perform.perform.Lts as lts
-use Rattle.store.proofs.doings.load.Reads as load-reads
+use Rattle.tables.proofs.doings.load.Reads as load-reads
 use Rattle.store.proofs.perform.perform_doing.Reads as perform-doing-reads
 
 load-requires : tie.Need-load-requires

@@ -7,10 +7,10 @@ use Rattle.store.proofs.perform.perform_read.Statement.{statement}
 use Rattle.store.proofs.perform.perform_read.Tie as tie
 use Rattle.store.proofs.perform.perform_read.Reads as reads
 use Rattle.store.proofs.perform.perform_read.Lts as lts
-use Rattle.store.proofs.doings.store.Reads as store-reads
-use Rattle.store.proofs.layout.copy.Reads as copy-reads
-use Rattle.store.proofs.layout.holds.Reads as holds-reads
-use Rattle.store.proofs.layout.home.Reads as home-reads
+use Rattle.tables.proofs.doings.store.Reads as store-reads
+use Rattle.tables.proofs.layout.copy.Reads as copy-reads
+use Rattle.tables.proofs.layout.holds.Reads as holds-reads
+use Rattle.tables.proofs.layout.home.Reads as home-reads
 
 home-requires : tie.Need-home-requires
 home-requires c κs = search needs

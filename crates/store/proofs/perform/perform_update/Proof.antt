@@ -7,8 +7,8 @@ use Rattle.store.proofs.perform.perform_update.Statement.{statement}
 use Rattle.store.proofs.perform.perform_update.Tie as tie
 use Rattle.store.proofs.perform.perform_update.Reads as reads
 use Rattle.store.proofs.perform.perform_update.Lts as lts
-use Rattle.store.proofs.doings.store.Reads as store-reads
-use Rattle.store.proofs.layout.home.Reads as home-reads
+use Rattle.tables.proofs.doings.store.Reads as store-reads
+use Rattle.tables.proofs.layout.home.Reads as home-reads
 use Rattle.store.proofs.perform.alone.Reads as alone-reads
 use Rattle.store.proofs.perform.update_copy.Reads as update-copy-reads
 

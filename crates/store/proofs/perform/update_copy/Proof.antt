@@ -6,8 +6,8 @@ use Rattle.store.proofs.perform.update_copy.Tie as tie
 use Rattle.store.proofs.perform.update_copy.Reads as reads
 use Rattle.store.proofs.perform.update_copy.Lts as lts
 use Rattle.names.proofs.update.Reads as update-reads
-use Rattle.store.proofs.layout.card_place.Reads as card-place-reads
-use Rattle.store.proofs.layout.register_place.Reads as register-place-reads
+use Rattle.tables.proofs.layout.card_place.Reads as card-place-reads
+use Rattle.tables.proofs.layout.register_place.Reads as register-place-reads
 
 card-place-requires : tie.Need-card-place-requires
 card-place-requires c κs = search needs

@@ -8,7 +8,7 @@ use borrow.Author.Needs.{needs}
 use lib.Dec.{eqb}
 use Rattle.names.specs.declared.Card.{Card}
 use Rattle.channel.specs.Answers.{answerNumber}
-use Rattle.store.specs.Outbox.{outCountOf, firstOut, unposted}
+use Rattle.tables.specs.Outbox.{outCountOf, firstOut, unposted}
 use Rattle.store.specs.Traffic.{handedAnswer, handedMemory, dispatchNumber, dispatchRegisters, dispatchChannel}
 use Rattle.store.proofs.traffic.dispatch.Statement.{statement}
 use Rattle.store.proofs.traffic.dispatch.Tie as tie

@@ -1,0 +1,188 @@
+// Which step a code and its argument are.
+ghost use mathlib.Core.Path.{_≡_};
+ghost use Prim.Native.Nat.{_<_};
+ghost use lib.ListN.{getD};
+ghost use Rattle.commands.specs.Decode.{byteOf, taskIn, cardIn, registerIn, chosenIn, functionIn, operandIn, restZero, decided, aloneNumber, pairNumber, readNumber, chosenNumber, updateNumber, decodeOf};
+ghost use Rattle.commands.specs.declared.Command.the-variants.{RequestRead, RequestUpdate, SendRead};
+use crate::Command;
+use crate::Decoded;
+use names::Card;
+use names::Register;
+use names::Task;
+
+// A byte of the argument.
+fn byte(argument: [u8; 8], k: usize) -> u32
+    requires { ⌜ k < 8 ⌝ }
+    ensures { λ r. ⌜ (r ≡ byteOf argument k) × (r < 256) ⌝ }
+{
+    argument[k] as u32
+}
+
+// Bytes 4 to 7, low byte first.
+fn operand(argument: [u8; 8]) -> u32
+    ensures { λ r. ⌜ r ≡ operandIn argument ⌝ }
+{
+    byte(argument, 4)
+        + 256 * (byte(argument, 5) + 256 * (byte(argument, 6) + 256 * byte(argument, 7)))
+}
+
+// Whether bytes 2 to 7 are zero.
+fn rest_zero(argument: [u8; 8]) -> bool
+    ensures { λ r. ⌜ r ≡ restZero argument ⌝ }
+{
+    (argument[2] == 0)
+        & (argument[3] == 0)
+        & (argument[4] == 0)
+        & (argument[5] == 0)
+        & (argument[6] == 0)
+        & (argument[7] == 0)
+}
+
+// The command where the number is 0, else the refusal.
+fn decided(number: u8, command: Command) -> Decoded
+    ensures { λ r. ⌜ r ≡ decided number command ⌝ }
+{
+    if number == 0 {
+        return Decoded::Good(command);
+    }
+    Decoded::Bad(number)
+}
+
+// 0, or the refusal of an argument that names in byte 0 alone one of so many: 11, then the number of what it names.
+fn alone_number(argument: [u8; 8], count: u32, number: u8) -> u8
+    ensures { λ r. ⌜ r ≡ aloneNumber argument count number ⌝ }
+{
+    if byte(argument, 1) != 0 {
+        return 11;
+    }
+    if !rest_zero(argument) {
+        return 11;
+    }
+    if count <= byte(argument, 0) {
+        return number;
+    }
+    0
+}
+
+// A task and, in byte 1, one of so many.
+fn pair_number(argument: [u8; 8], tasks: u32, count: u32, number: u8) -> u8
+    ensures { λ r. ⌜ r ≡ pairNumber argument tasks count number ⌝ }
+{
+    if !rest_zero(argument) {
+        return 11;
+    }
+    if tasks <= byte(argument, 0) {
+        return 12;
+    }
+    if count <= byte(argument, 1) {
+        return number;
+    }
+    0
+}
+
+// A task, a register, a function and an operand.
+fn update_number(argument: [u8; 8], registers: u32, tasks: u32) -> u8
+    ensures { λ r. ⌜ r ≡ updateNumber argument registers tasks ⌝ }
+{
+    if byte(argument, 3) != 0 {
+        return 11;
+    }
+    if tasks <= byte(argument, 0) {
+        return 12;
+    }
+    if registers <= byte(argument, 1) {
+        return 13;
+    }
+    if byte(argument, 2) < 1 {
+        return 15;
+    }
+    if 4 < byte(argument, 2) {
+        return 15;
+    }
+    0
+}
+
+fn request_read(argument: [u8; 8], registers: u32, tasks: u32) -> Decoded
+    ensures { λ r. ⌜ r ≡ decided (readNumber argument registers tasks) (RequestRead (taskIn argument) (registerIn argument)) ⌝ }
+{
+    let task = Task(byte(argument, 0));
+    let register = Register(byte(argument, 1));
+    decided(
+        pair_number(argument, tasks, registers, 13),
+        Command::RequestRead(task, register),
+    )
+}
+
+fn request_update(argument: [u8; 8], registers: u32, tasks: u32) -> Decoded
+    ensures { λ r. ⌜ r ≡ decided (updateNumber argument registers tasks) (RequestUpdate (taskIn argument) (registerIn argument) (functionIn argument) (operandIn argument)) ⌝ }
+{
+    let task = Task(byte(argument, 0));
+    let register = Register(byte(argument, 1));
+    decided(
+        update_number(argument, registers, tasks),
+        Command::RequestUpdate(task, register, byte(argument, 2), operand(argument)),
+    )
+}
+
+fn send_read(argument: [u8; 8], cards: u32, tasks: u32) -> Decoded
+    ensures { λ r. ⌜ r ≡ decided (chosenNumber argument cards tasks) (SendRead (taskIn argument) (chosenIn argument)) ⌝ }
+{
+    let task = Task(byte(argument, 0));
+    let chosen = Card(byte(argument, 1));
+    decided(
+        pair_number(argument, tasks, cards, 14),
+        Command::SendRead(task, chosen),
+    )
+}
+
+fn task_in(argument: [u8; 8]) -> Task
+    ensures { λ r. ⌜ r ≡ taskIn argument ⌝ }
+{
+    Task(byte(argument, 0))
+}
+
+fn card_in(argument: [u8; 8]) -> Card
+    ensures { λ r. ⌜ r ≡ cardIn argument ⌝ }
+{
+    Card(byte(argument, 0))
+}
+
+// The command that a code and its argument are, or their refusal.
+pub fn decode(code: u8, argument: [u8; 8], cards: u32, registers: u32, tasks: u32) -> Decoded
+    ensures { λ r. ⌜ r ≡ decodeOf code argument cards registers tasks ⌝ }
+{
+    match code {
+        1 => request_read(argument, registers, tasks),
+        2 => request_update(argument, registers, tasks),
+        3 => decided(
+            alone_number(argument, tasks, 12),
+            Command::Perform(task_in(argument)),
+        ),
+        4 => send_read(argument, cards, tasks),
+        5 => decided(
+            alone_number(argument, tasks, 12),
+            Command::SendUpdate(task_in(argument)),
+        ),
+        6 => decided(
+            alone_number(argument, cards, 14),
+            Command::Dispatch(card_in(argument)),
+        ),
+        7 => decided(
+            alone_number(argument, cards, 14),
+            Command::TakeBroadcast(card_in(argument)),
+        ),
+        8 => decided(
+            alone_number(argument, tasks, 12),
+            Command::TakeSingle(task_in(argument)),
+        ),
+        9 => decided(
+            alone_number(argument, cards, 14),
+            Command::Deliver(card_in(argument)),
+        ),
+        10 => decided(
+            alone_number(argument, tasks, 12),
+            Command::Report(task_in(argument)),
+        ),
+        0 | 11..=255 => Decoded::Bad(10),
+    }
+}

@@ -1,0 +1,30 @@
+-- What a result says, and when each comes: the store's answers in the terms of claims/specs/Allowed and Numbers, from every well-sized pair
+-- of memories that shows a state.
+use Prim.Native.Nat.{ℕ}
+use mathlib.Core.Path.{_≡_}
+use mathlib.Core.Logic.{_⊎_, _↔_}
+use mathlib.Core.Bool.{true}
+use mathlib.Core.List.{List}
+use Rattle.names.specs.Placement.{Placement}
+use Rattle.claims.specs.Command.{Command}
+use Rattle.claims.specs.Steps.{RawStep, good, decode}
+use Rattle.claims.specs.Published.{Published}
+use Rattle.claims.specs.Allowed.{allowed, within}
+use Rattle.claims.specs.Numbers.{Misformed, Comes}
+use Rattle.tables.specs.Sized.{storeSized}
+use Rattle.store.specs.Step.{advanced, stepped}
+use Rattle.store.specs.Demand2.{Stands}
+
+-- the result of a step
+abbrev pub resultOf : List ℕ → List ℕ → RawStep → ℕ
+resultOf rs cs a = stepped rs cs (a .code) (a .argument) .answer .result
+
+pub record StepResults : Type 0 where
+  -- 0 exactly if the step decodes to a command that the algorithm allows within the limits
+  pub taken : (rs cs : List ℕ) (P : Placement) (s : Published) → Stands rs cs P s → (a : RawStep)
+      → (resultOf rs cs a ≡ 0) ↔ ((c : Command) × (decode P a ≡ good c) × (allowed P s c ≡ true) × (within P s c ≡ true))
+  -- another number exactly if the step is misformed so, or decodes to a command for which that number comes
+  pub refused : (rs cs : List ℕ) (P : Placement) (s : Published) → Stands rs cs P s → (a : RawStep) (n : ℕ) → ¬ (n ≡ 0)
+      → (resultOf rs cs a ≡ n) ↔ (Misformed P a n ⊎ ((c : Command) × (decode P a ≡ good c) × Comes P s n c))
+  -- a step that does not check the state first is the same step, on every well-sized pair
+  pub unchecked : (rs cs : List ℕ) → storeSized rs cs ≡ true → (a : RawStep) → advanced rs cs (a .code) (a .argument) ≡ stepped rs cs (a .code) (a .argument)

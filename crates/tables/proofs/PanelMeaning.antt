@@ -1,0 +1,60 @@
+-- The panel's definitions read the words that the memories show (specs/Shows).
+use Prim.Native.Nat.{ℕ, _+_, _*_, _%_, _<_, _≤_}
+use mathlib.Core.Path.{_≡_, refl, sym, ap, _∙_}
+use mathlib.Core.Bool.{Bool, true, false, cond, _&&_}
+use mathlib.Core.Logic.{_⊎_, inl, inr}
+use mathlib.Core.List.{List}
+use native.Mathlib.Omega.{arith}
+use borrow.Author.Tests.{lt-ltb, le-ltb}
+use lib.Dec.{ltb}
+use lib.ListN.{getD}
+use Rattle.names.specs.declared.Card.{Card}
+use Rattle.names.specs.declared.Task.{Task}
+use Rattle.names.specs.declared.Register.{Register}
+use Rattle.names.specs.Placement.{Placement, tasks, registers}
+use Rattle.channel.specs.Layout.{cardsOf, tasksOf, registersOf}
+use Rattle.claims.specs.Published.{Published, quiet}
+use Rattle.tables.specs.Layout.{copyWord, copyOf}
+use Rattle.tables.specs.Doings.{doingAt}
+use Rattle.tables.specs.Panel.{valueShown, doingShown}
+use Rattle.tables.specs.Shows.{statusOf, StoreShows}
+use Rattle.tables.specs.PanelMeaning.{PanelMeaning, CardAfterCard}
+
+and-false : (b : Bool) → (b && false) ≡ false
+and-false true = refl
+and-false false = refl
+
+module _ (rs cs : List ℕ) where
+  value-there : (i : Card) (x : Register) → i .0 < cardsOf cs → x .0 < registersOf cs → valueShown rs cs i x ≡ copyOf rs (i .0) (x .0)
+  unfolding valueShown
+  value-there i x p q = rw (lt-ltb _ _ p, lt-ltb _ _ q)
+
+  value-absent : (i : Card) (x : Register) → (cardsOf cs ≤ i .0) ⊎ (registersOf cs ≤ x .0) → valueShown rs cs i x ≡ 0
+  unfolding valueShown
+  value-absent i x (inl p) = rw (le-ltb _ _ p)
+  value-absent i x (inr q) = rw (le-ltb _ _ q) (ap (λ b. cond b (copyOf rs (i .0) (x .0)) 0) (and-false (ltb (i .0) (cardsOf cs))))
+
+  doing-there : (t : Task) → t .0 < tasksOf cs → statusOf (doingShown rs cs t) ≡ statusOf (doingAt rs (t .0))
+  unfolding doingShown
+  doing-there t p = rw (lt-ltb _ _ p)
+
+  doing-absent : (t : Task) → tasksOf cs ≤ t .0 → statusOf (doingShown rs cs t) ≡ quiet
+  unfolding doingShown statusOf
+  doing-absent t p = rw (le-ltb _ _ p)
+
+pub panel-meaning : (rs cs : List ℕ) (P : Placement) (s : Published) → StoreShows rs cs P s → PanelMeaning rs cs P s
+panel-meaning rs cs P s v = record {
+  value = λ i x p q. let a : i .0 < cardsOf cs = rw (← v .cards=) p in let b : x .0 < registersOf cs = rw (← v .registers=) q in
+      value-there rs cs i x a b ∙ sym (v .registers-show .table= (i .0) (x .0) a b);
+  no-value = λ i x h. value-absent rs cs i x (past i x h);
+  doing = λ t p. let a : t .0 < tasksOf cs = rw (← v .tasks=) p in doing-there rs cs t a ∙ sym (v .registers-show .status= (t .0) a);
+  no-doing = λ t p. let a : tasksOf cs ≤ t .0 = rw (← v .tasks=) p in doing-absent rs cs t a;
+  requests = sym (v .registers-show .requests=);
+}
+  where
+    past : (i : Card) (x : Register) → (P .cards ≤ i .0) ⊎ (registers P ≤ x .0) → (cardsOf cs ≤ i .0) ⊎ (registersOf cs ≤ x .0)
+    past i x (inl p) = inl (rw (← v .cards=) p)
+    past i x (inr q) = inr (rw (← v .registers=) q)
+
+pub card-after-card : CardAfterCard
+card-after-card rs i x p q = let e : copyWord i x ≡ 200 + 32 * i + x = omega arith in ap (λ k. getD rs k 0) e

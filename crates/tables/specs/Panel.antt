@@ -1,0 +1,21 @@
+-- What the memories say to one who looks: 0 and quiet for an absent card, task or register.
+use Prim.Native.Nat.{ℕ}
+use mathlib.Core.Bool.{Bool, true, false, cond, _&&_}
+use mathlib.Core.List.{List}
+use lib.Dec.{ltb}
+use Rattle.names.specs.declared.Card.{Card}
+use Rattle.names.specs.declared.Task.{Task}
+use Rattle.names.specs.declared.Register.{Register}
+use Rattle.channel.specs.Layout.{cardsOf, tasksOf, registersOf}
+use Rattle.tables.specs.declared.Doing.{Doing}
+use Rattle.tables.specs.declared.Doing.the-variants.{Quiet}
+use Rattle.tables.specs.Layout.{copyOf}
+use Rattle.tables.specs.Doings.{doingAt}
+
+-- the value of a card's copy of a register
+unfoldable pub valueShown : List ℕ → List ℕ → Card → Register → ℕ
+valueShown rs cs card x = cond (ltb (card .0) (cardsOf cs) && ltb (x .0) (registersOf cs)) (copyOf rs (card .0) (x .0)) 0
+
+-- what a task is doing
+unfoldable pub doingShown : List ℕ → List ℕ → Task → Doing
+doingShown rs cs t = cond (ltb (t .0) (tasksOf cs)) (doingAt rs (t .0)) Quiet

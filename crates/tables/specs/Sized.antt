@@ -1,0 +1,50 @@
+-- Well-sized memories: what a step must find, else it is refused with 6 ("an ill-sized state: a size, number or queue length past its limit
+-- .. A home, destination or message field naming an absent card, task or register, or an unknown function, is past its limit too"). The
+-- parts of absent cards, tasks and registers are not looked at.
+use Prim.Native.Nat.{ℕ, _+_, _*_, _%_, _^_, min}
+use mathlib.Core.Bool.{Bool, true, false, _&&_}
+use mathlib.Core.List.{List}
+use lib.Dec.{ltb, leb}
+use lib.ListN.{getD}
+use Rattle.lists.specs.Every.{each}
+use Rattle.channel.specs.Layout.{cardsOf, tasksOf, registersOf}
+use Rattle.channel.specs.Sized.{blockFits, wellSized}
+use Rattle.tables.specs.declared.Doing.{Doing}
+use Rattle.tables.specs.declared.Doing.the-variants.{Quiet, AskingRead, AskingUpdate, Waiting, DoneRead, DoneUpdate}
+use Rattle.tables.specs.Layout.{kindWord, requestsOf, homeOf, holdersOf, primaryOf}
+use Rattle.tables.specs.Doings.{doingAt}
+use Rattle.tables.specs.Outbox.{outHeadOf, outCountOf, outPlace}
+
+-- an asking task's register is present, and its function known
+unfoldable pub doingFits : List ℕ → Doing → Bool
+doingFits cs Quiet = true
+doingFits cs (AskingRead x) = ltb (x .0) (registersOf cs)
+doingFits cs (AskingUpdate x f w) = ltb (x .0) (registersOf cs) && leb 1 f && leb f 4
+doingFits cs Waiting = true
+doingFits cs (DoneRead v) = true
+doingFits cs DoneUpdate = true
+
+-- task t: its home is present, and what it is doing is one of the six kinds
+unfoldable pub taskFits : List ℕ → List ℕ → ℕ → Bool
+taskFits rs cs t = ltb (homeOf rs t) (cardsOf cs) && leb (getD rs (kindWord t) 0) 5 && doingFits cs (doingAt rs t)
+
+-- register x: holders and primary are present cards
+unfoldable pub registerFits : List ℕ → List ℕ → ℕ → Bool
+registerFits rs cs x = ltb (holdersOf rs x) (2 ^ cardsOf cs) && ltb (primaryOf rs x) (cardsOf cs)
+
+-- place k of card i's outbox: the channel's rule for every block
+unfoldable pub outFits : List ℕ → List ℕ → ℕ → ℕ → Bool
+outFits rs cs i k = blockFits cs rs (outPlace rs i k)
+
+-- card i: "an outbox has at most 16 messages"
+unfoldable pub outboxFits : List ℕ → List ℕ → ℕ → Bool
+outboxFits rs cs i = ltb (outHeadOf rs i) 16 && leb (outCountOf rs i) 16 && each (min (outCountOf rs i) 16) (outFits rs cs i)
+
+-- the registers' memory, over a channel's; "taken requests end at 65,535"
+unfoldable pub registersSized : List ℕ → List ℕ → Bool
+registersSized rs cs =
+    leb (requestsOf rs) 65535 && each (tasksOf cs) (taskFits rs cs) && each (registersOf cs) (registerFits rs cs)
+    && each (cardsOf cs) (outboxFits rs cs)
+
+unfoldable pub storeSized : List ℕ → List ℕ → Bool
+storeSized rs cs = wellSized cs && registersSized rs cs

@@ -1,0 +1,32 @@
+-- The start from a placement: "At first every task is quiet, every queue empty, nothing held or in flight, no broadcast made or taken";
+-- "every copy starts at 0".
+use Prim.Native.Nat.{ℕ, zero, suc}
+use mathlib.Core.Bool.{Bool, true, false, cond}
+use mathlib.Core.List.{List}
+use lib.Dec.{eqb}
+use lib.ListN.{getD, set, replicate}
+use Rattle.lists.specs.Loops.{turns}
+use Rattle.names.specs.Placement.{Placement, tasks, registers, home, holders, primary, placementRefusal}
+use Rattle.channel.specs.Begin.{beginMemory}
+use Rattle.tables.specs.Layout.{homeWord, holdersWord, primaryWord}
+
+-- task t lives at its home
+unfoldable pub homeSet : List ℕ → ℕ → List ℕ → List ℕ
+homeSet homes t ws = set ws (homeWord t) (getD homes t 0)
+
+-- register x has its holders and its primary
+unfoldable pub registerSet : List ℕ → List ℕ → ℕ → List ℕ → List ℕ
+registerSet copies primaries x ws = set (set ws (holdersWord x) (getD copies x 0)) (primaryWord x) (getD primaries x 0)
+
+module _ (p : Placement) where
+  -- every word zero but homes, holders and primaries
+  unfoldable pub startWords : List ℕ
+  startWords =
+      turns (registerSet (p .copies) (p .primaries)) (registers p) (turns (homeSet (p .homes)) (tasks p) (replicate 1544 0))
+
+  -- 3, then 4 "and no state is begun"
+  unfoldable pub startRegisters : List ℕ → List ℕ
+  startRegisters rs = cond (eqb (placementRefusal p) 0) startWords rs
+
+  unfoldable pub startChannel : List ℕ → List ℕ
+  startChannel cs = cond (eqb (placementRefusal p) 0) (beginMemory cs (p .cards) (tasks p) (registers p)) cs

@@ -1,0 +1,106 @@
+// What a task is doing, in four words: kind, register, function, value.
+ghost use mathlib.Core.Path.{_≡_};
+ghost use Rattle.tables.specs.Doings.{doingOf, doingKind, doingRegister, doingFunction, doingValue, doingAt, doingStored};
+use super::layout::TASK;
+use super::layout::task_place;
+use crate::Doing;
+use names::Register;
+use names::Task;
+
+fn doing_of(kind: u32, register: Register, function: u32, value: u32) -> Doing
+    ensures { λ r. ⌜ r ≡ doingOf kind register function value ⌝ }
+{
+    if kind == 0 {
+        return Doing::Quiet;
+    }
+    if kind == 1 {
+        return Doing::AskingRead(register);
+    }
+    if kind == 2 {
+        return Doing::AskingUpdate(register, function, value);
+    }
+    if kind == 3 {
+        return Doing::Waiting;
+    }
+    if kind == 4 {
+        return Doing::DoneRead(value);
+    }
+    Doing::DoneUpdate
+}
+
+// The number of what a task is doing.
+pub fn kind_of(doing: Doing) -> u32
+    ensures { λ r. ⌜ r ≡ doingKind doing ⌝ }
+{
+    match doing {
+        Doing::Quiet => 0,
+        Doing::AskingRead(_) => 1,
+        Doing::AskingUpdate(_, _, _) => 2,
+        Doing::Waiting => 3,
+        Doing::DoneRead(_) => 4,
+        Doing::DoneUpdate => 5,
+    }
+}
+
+fn register_of(doing: Doing) -> Register
+    ensures { λ r. ⌜ r .0 ≡ doingRegister doing ⌝ }
+{
+    match doing {
+        Doing::Quiet => Register(0),
+        Doing::AskingRead(x) => x,
+        Doing::AskingUpdate(x, _, _) => x,
+        Doing::Waiting => Register(0),
+        Doing::DoneRead(_) => Register(0),
+        Doing::DoneUpdate => Register(0),
+    }
+}
+
+fn function_of(doing: Doing) -> u32
+    ensures { λ r. ⌜ r ≡ doingFunction doing ⌝ }
+{
+    match doing {
+        Doing::Quiet => 0,
+        Doing::AskingRead(_) => 0,
+        Doing::AskingUpdate(_, f, _) => f,
+        Doing::Waiting => 0,
+        Doing::DoneRead(_) => 0,
+        Doing::DoneUpdate => 0,
+    }
+}
+
+// The value that a task has read, or the operand of an update that it asks for.
+pub fn value_of(doing: Doing) -> u32
+    ensures { λ r. ⌜ r ≡ doingValue doing ⌝ }
+{
+    match doing {
+        Doing::Quiet => 0,
+        Doing::AskingRead(_) => 0,
+        Doing::AskingUpdate(_, _, w) => w,
+        Doing::Waiting => 0,
+        Doing::DoneRead(v) => v,
+        Doing::DoneUpdate => 0,
+    }
+}
+
+// What a task is doing.
+pub fn load(registers: &[u32; 1544], task: Task) -> Doing
+    ensures { λ r. ⌜ r ≡ doingAt (now (registers .entry)) (task .0) ⌝ }
+{
+    let at = TASK + task_place(task) * 8;
+    let kind = registers[at + 1];
+    let register = Register(registers[at + 2]);
+    let function = registers[at + 3];
+    let value = registers[at + 4];
+    doing_of(kind, register, function, value)
+}
+
+// The task now does this.
+pub fn store(registers: &mut [u32; 1544], task: Task, doing: Doing)
+    ensures { λ _. ⌜ now (registers .exit) ≡ doingStored (now (registers .entry)) (task .0) doing ⌝ }
+{
+    let at = TASK + task_place(task) * 8;
+    registers[at + 1] = kind_of(doing);
+    registers[at + 2] = register_of(doing).0;
+    registers[at + 3] = function_of(doing);
+    registers[at + 4] = value_of(doing);
+}
