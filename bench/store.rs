@@ -1,12 +1,13 @@
 //! The proved store and the model in plain Rust on the same guided files of 4,096 steps, in one run:
 //!   rt staticlib firmware && cargo run --release --offline --manifest-path bench/Cargo.toml
 //! Processor time, medians of rounds taken in turn. Every round begins from a new state; outputs are
-//! not cleared between rounds. The model is ordinary Rust (Vec, VecDeque), not tuned: `bare` is what
-//! its steps alone take of a whole run, without reading the file and writing the answer.
+//! not cleared between rounds. The model is ordinary Rust (Vec, VecDeque), not tuned. Of a whole run the
+//! file is read and the answer written too; a checked step begins with the check of the whole state; an
+//! unchecked one is `advance` on one side, and on the other the model's step alone.
 
 use std::hint::black_box;
 
-use gondzselu::{Placement, Store};
+use gondzselu::{Refusal, Store};
 use gondzselu_model::generate::{file_of, Kind};
 use gondzselu_model::model::files::{answer_into, Run};
 use gondzselu_model::model::tally::Tally;
@@ -55,45 +56,33 @@ fn files() -> Vec<Vec<u8>> {
     longest.take(FILES).collect()
 }
 
-/// The store's steps one by one, each with the check of the whole state; then the model's.
-fn steps(run: &Run) -> (f64, f64) {
-    let places = &run.placement.registers;
-    let copies: Vec<u8> = places.iter().map(|place| place.holders).collect();
-    let primaries: Vec<u8> = places.iter().map(|place| place.primary).collect();
-    let placement = Placement {
-        cards: run.placement.cards as u32,
-        homes: &run.placement.home,
-        copies: &copies,
-        primaries: &primaries,
-    };
-    let mut store = Store::start(placement).expect("an accepted placement");
+/// The store's steps one by one, then the model's, by these two.
+fn steps(
+    file: &[u8],
+    run: &Run,
+    proved: impl Fn(&mut Store, u8, [u8; 8]) -> Result<u32, Refusal>,
+    plain: impl Fn(&mut State, u8, [u8; 8]) -> (u8, u32),
+) -> [f64; 2] {
+    let mut store = Store::start_from_file(file).expect("an accepted file");
     let mut state = State::start(run.placement.clone()).expect("an accepted placement");
-    let (proved, first) = timed(|| {
+    let numbers = |answer: Result<u32, Refusal>| match answer {
+        Ok(value) => (0, value),
+        Err(refusal) => (refusal.number(), 0),
+    };
+    let (first_time, first) = timed(|| {
         let steps = run.steps.iter();
         steps
-            .map(|&(code, argument)| store.step(code, argument))
+            .map(|&(code, argument)| numbers(proved(&mut store, code, argument)))
             .fold(0, sum)
     });
-    let (plain, second) = timed(|| {
+    let (second_time, second) = timed(|| {
         let steps = run.steps.iter();
         steps
-            .map(|&(code, argument)| state.step(code, argument))
+            .map(|&(code, argument)| plain(&mut state, code, argument))
             .fold(0, sum)
     });
     assert_eq!(first, second);
-    (proved, plain)
-}
-
-/// The model's steps one by one, with no check of the state.
-fn bare(run: &Run) -> f64 {
-    let mut state = State::start(run.placement.clone()).expect("an accepted placement");
-    let steps = run.steps.iter();
-    timed(|| {
-        steps
-            .map(|&(code, argument)| state.step_reached(code, argument))
-            .fold(0, sum)
-    })
-    .0
+    [first_time, second_time]
 }
 
 fn sum(total: u32, (result, value): (u8, u32)) -> u32 {
@@ -103,39 +92,45 @@ fn sum(total: u32, (result, value): (u8, u32)) -> u32 {
         .wrapping_add(value)
 }
 
+/// The whole run, by the store and by the model.
+fn whole(file: &[u8], output: &mut [u8], wanted: &mut [u8], tally: &mut Tally) -> [f64; 2] {
+    let (proved, answer) = timed(|| gondzselu::answer(black_box(file), output));
+    let (plain, expected) = timed(|| answer_into(black_box(file), wanted, tally));
+    assert_eq!(answer.map_or_else(Refusal::number, |_| 0), expected);
+    assert_eq!(output, wanted);
+    [proved, plain]
+}
+
 fn main() {
-    let mut ratios = Vec::new();
-    println!("nanoseconds a step");
-    println!("file  taken | whole run: proved  plain  ratio   bare | checked steps: proved  plain  ratio");
+    let mut ratios = [const { Vec::new() }; 3];
+    println!("nanoseconds a step: proved, plain, ratio");
+    println!("file  taken |     whole run      |   checked steps     |  unchecked steps");
     for (number, file) in files().into_iter().enumerate() {
         let run = Run::read(&file).expect("an accepted file");
-        let mut times = [const { Vec::new() }; 5];
+        let mut times = [const { [const { Vec::new() }; 2] }; 3];
         let mut taken = 0;
         let (mut output, mut wanted) = (vec![0; 2 + 5 * STEPS], vec![0; 2 + 5 * STEPS]);
         for _ in 0..ROUNDS {
             let mut tally = Tally::default();
-            let (proved, refusal) = timed(|| gondzselu::answer(black_box(&file), &mut output));
-            let (plain, expected) =
-                timed(|| answer_into(black_box(&file), &mut wanted, &mut tally));
-            assert_eq!((refusal, &output), (expected, &wanted));
+            let round = [
+                whole(&file, &mut output, &mut wanted, &mut tally),
+                steps(&file, &run, Store::step_bytes, State::step),
+                steps(&file, &run, Store::advance_bytes, State::step_reached),
+            ];
             taken = tally.taken;
-            let (proved_steps, plain_steps) = steps(&run);
-            for (times, time) in
-                times
-                    .iter_mut()
-                    .zip([proved, plain, proved_steps, plain_steps, bare(&run)])
-            {
+            for (times, time) in times.iter_mut().flatten().zip(round.into_iter().flatten()) {
                 times.push(time / STEPS as f64);
             }
         }
-        let [proved, plain, proved_steps, plain_steps, bare] = times.map(median);
-        let ratio = proved / plain;
-        println!(
-            "{number:>4} {taken:>6} | {proved:>17.1} {plain:>6.1} {ratio:>6.2} {bare:>6.1} | {proved_steps:>21.1} {plain_steps:>6.1} {:>6.2}",
-            proved_steps / plain_steps
-        );
-        ratios.push(ratio);
+        print!("{number:>4} {taken:>6}");
+        for (pair, ratios) in times.into_iter().zip(&mut ratios) {
+            let [proved, plain] = pair.map(median);
+            print!(" | {proved:>6.1} {plain:>6.1} {:>4.2}", proved / plain);
+            ratios.push(proved / plain);
+        }
+        println!();
     }
-    println!("median ratio of whole runs: {:.2}", median(ratios));
+    let [whole, checked, unchecked] = ratios.map(median);
+    println!("median ratios: whole runs {whole:.2}, checked steps {checked:.2}, unchecked {unchecked:.2}");
     println!("a store: {} bytes", std::mem::size_of::<Store>());
 }

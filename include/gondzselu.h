@@ -1,24 +1,24 @@
 /*
- * The proved register store for firmware. Build the library with `rt staticlib firmware`
- * and link target/staticlib/libfirmware.a (x86-64 Linux).
+ * The proved register store for firmware, in C11 and C++ (x86-64 Linux). `firmware/install PREFIX`
+ * installs it; then `cc main.c $(pkg-config --cflags --libs gondzselu)`. The rules are in
+ * docs/RULES.md and cited by number ("RULES 8.5"): what the steps do, when they are refused, what
+ * is promised of a run. firmware/c/k9.c is a first program.
  *
- * A store lies in two memories that the caller lends: words of 32 bits, changed in place,
- * which nobody else reads or writes during a call. Any words are safe to lend: a store that
- * is not well sized is refused with 6. No pointer is NULL, and no two of one call overlap
- * where one of them is written.
- *
- * Refusals
- *   of a placement or a file   1 too short  2 too long  3 a size out of range  4 misplaced
- *   of lent memory             5 output too short  6 an ill-sized state
- *   of a step's bytes          10 unknown code  11 an unnamed byte not zero  12 task
- *                              13 register  14 card  15 function out of range
- *   of a task                  20 not quiet  21 not asking, or not done
- *                              22 copies lie otherwise  23 after 65,535 requests
- *   of the next move           30 outbox empty  31 no broadcast to take
- *                              32 nothing of that task in flight  33 inbox empty
- *                              34 a card would be more than 64 broadcasts behind
- *                              35 32 undelivered broadcasts in the inbox
- * A refusal changes nothing that is lent, except that a refused step's value is 0.
+ * Memory    A store is two memories that the caller lends, changed in place, aligned as uint32_t.
+ *           Each has its type, so that swapped ones do not compile (older C compilers only warn:
+ *           use -Werror). Any words are safe to lend (RULES 11.2). The library keeps nothing
+ *           elsewhere, and needs memset and no other function.
+ * Pointers  None is NULL, also where a length is 0. What a call writes overlaps nothing else that
+ *           it is given (RULES 11.2).
+ * Threads   One caller at a time for a store; an interrupt is a caller too. Calls that only read,
+ *           those with const memories, may run side by side. Stores are independent (RULES 11.3).
+ * Copying   Copy both memories whole, between calls; a gondzselu_store by `*b = *a`. Memories of
+ *           different moments are a state made by hand (RULES 11.5).
+ * Bytes     Memories are words in the machine's own order. Files and arguments are bytes in the
+ *           order of RULES 3 and 4 on every machine.
+ * Stack     See GONDZSELU_STACK_ANSWER. As x86-64 code may, the library uses the 128 bytes below
+ *           the stack pointer and SSE registers: an interrupt on its stack spares the former and
+ *           saves the latter.
  */
 #ifndef GONDZSELU_H
 #define GONDZSELU_H
@@ -30,61 +30,81 @@
 extern "C" {
 #endif
 
-/* The memories of a store, in words. */
+/* ---- version */
+
+#define GONDZSELU_VERSION_MAJOR 0
+#define GONDZSELU_VERSION_MINOR 1
+#define GONDZSELU_VERSION_PATCH 0
+#define GONDZSELU_VERSION \
+    (GONDZSELU_VERSION_MAJOR * 1000000 + GONDZSELU_VERSION_MINOR * 1000 + GONDZSELU_VERSION_PATCH)
+
+/* The library's version, to be compared with GONDZSELU_VERSION: the header may be of another. */
+uint32_t gondzselu_version(void);
+
+/* ---- limits (RULES 1.3, 3.2, 4.1, 7.8, 11.1) */
+
+#define GONDZSELU_CARDS_MAX 8
+#define GONDZSELU_REGISTERS_MAX 32
+#define GONDZSELU_TASKS_MAX 16
+#define GONDZSELU_STEPS_MAX 4096     /* of a run file; calls have no such limit */
+#define GONDZSELU_REQUESTS_MAX 65535 /* of a store, from its start on */
+#define GONDZSELU_FILE_MAX 36949     /* bytes of the longest run file */
+#define GONDZSELU_ANSWER_MAX 20482   /* bytes of the longest answer file */
 #define GONDZSELU_REGISTERS_WORDS 1544
 #define GONDZSELU_CHANNEL_WORDS 4808
 
-/* The same numbers from the library, to check a build with. */
-size_t gondzselu_registers_words(void);
-size_t gondzselu_channel_words(void);
+/* Bytes of stack that a call uses at most: gondzselu_answer and gondzselu_answer_counted, which
+ * have a store of their own there; and any other call. Measured by firmware/c/stack.c and rounded
+ * up, not proved. */
+#define GONDZSELU_STACK_ANSWER 28672
+#define GONDZSELU_STACK_CALL 1024
 
-/* ---- a whole run */
+/* ---- types */
 
-/* Answers a run file into a lent output of at least 2 + 5 * steps bytes. Gives 0, or 1 to 5
- * with the output as it was. Bytes past the answer stay as they were. */
-uint8_t gondzselu_answer(const uint8_t *file, size_t file_length,
-                         uint8_t *output, size_t output_length);
+typedef struct gondzselu_registers {
+    uint32_t words[GONDZSELU_REGISTERS_WORDS];
+} gondzselu_registers;
 
-/* Steps taken and steps refused. Each count stays at its largest value once there. */
-typedef struct {
+typedef struct gondzselu_channel {
+    uint32_t words[GONDZSELU_CHANNEL_WORDS];
+} gondzselu_channel;
+
+/* Both memories of a store in one place. The calls take them one by one. */
+typedef struct gondzselu_store {
+    gondzselu_registers registers;
+    gondzselu_channel channel;
+} gondzselu_store;
+
+/* Steps taken and steps refused, 0 and 0 at first. A count stays at its largest value (RULES 9). */
+typedef struct gondzselu_tally {
     uint32_t taken;
     uint32_t refused;
 } gondzselu_tally;
 
-/* The same, and adds the run's steps to a lent tally. A refused file or output leaves it
- * alone. */
-uint8_t gondzselu_answer_counted(const uint8_t *file, size_t file_length,
-                                 uint8_t *output, size_t output_length,
-                                 gondzselu_tally *tally);
+/* The ten steps (RULES 5). */
+enum gondzselu_code {
+    GONDZSELU_REQUEST_READ = 1,
+    GONDZSELU_REQUEST_UPDATE = 2,
+    GONDZSELU_PERFORM = 3,
+    GONDZSELU_SEND_READ = 4,
+    GONDZSELU_SEND_UPDATE = 5,
+    GONDZSELU_DISPATCH = 6,
+    GONDZSELU_TAKE_BROADCAST = 7,
+    GONDZSELU_TAKE_SINGLE = 8,
+    GONDZSELU_DELIVER = 9,
+    GONDZSELU_REPORT = 10
+};
 
-/* ---- a store */
+/* What an update makes of a value and its operand (RULES 2). */
+enum gondzselu_function {
+    GONDZSELU_SET = 1,    /* the operand */
+    GONDZSELU_ADD = 2,    /* the sum modulo 2^32 */
+    GONDZSELU_LARGER = 3, /* the larger, unsigned */
+    GONDZSELU_OR = 4      /* the bitwise or */
+};
 
-/* Begins a store on so many cards: the home card of each task; for each register the cards
- * that hold a copy (bit i for card i) and its primary card. Gives 0, or 3 or 4 with both
- * memories as they were. */
-uint8_t gondzselu_start(uint32_t *registers, uint32_t *channel, uint32_t cards,
-                        const uint8_t *homes, size_t homes_length,
-                        const uint8_t *copies, size_t copies_length,
-                        const uint8_t *primaries, size_t primaries_length);
-
-/* The same from the placement in a run file, whose steps are not taken. Gives 0, or 1 to 4
- * with both memories as they were. */
-uint8_t gondzselu_start_file(uint32_t *registers, uint32_t *channel,
-                             const uint8_t *file, size_t file_length);
-
-/* Takes one of the ten steps: a code and its eight argument bytes. Gives 0, or 6 to 35 with
- * both memories as they were. The value is what a reported read gave, and 0 otherwise. */
-uint8_t gondzselu_step(uint32_t *registers, uint32_t *channel, uint8_t code,
-                       const uint8_t argument[8], uint32_t *value);
-
-/* ---- what a panel reads */
-
-/* The value of a card's copy of a register; 0 for an absent card or register. */
-uint32_t gondzselu_copy(const uint32_t *registers, const uint32_t *channel,
-                        uint32_t card, uint32_t register_number);
-
-/* What a task is doing; an absent task is quiet. */
-enum {
+/* What a task is doing (RULES 1.8). */
+enum gondzselu_condition {
     GONDZSELU_QUIET = 0,
     GONDZSELU_ASKING_READ = 1,
     GONDZSELU_ASKING_UPDATE = 2,
@@ -92,19 +112,188 @@ enum {
     GONDZSELU_DONE_READ = 4,
     GONDZSELU_DONE_UPDATE = 5
 };
-uint32_t gondzselu_task(const uint32_t *registers, const uint32_t *channel, uint32_t task);
 
-/* The value read by a task that is done with a read, the operand of one that asks for an
- * update; else 0. */
-uint32_t gondzselu_task_value(const uint32_t *registers, const uint32_t *channel,
-                              uint32_t task);
+/* What the calls give (RULES 8.2). A refusal changes nothing that is lent; but a refused step's
+ * value is 0, and a tally counts it. */
+enum gondzselu_refusal {
+    GONDZSELU_TAKEN = 0, /* no refusal: the step is taken; the file or placement is accepted */
+    /* of a file or a placement */
+    GONDZSELU_FILE_TOO_SHORT = 1,
+    GONDZSELU_FILE_TOO_LONG = 2,
+    GONDZSELU_SIZE_OUT_OF_RANGE = 3,
+    GONDZSELU_MISPLACED = 4, /* no copy, a copy or home on an absent card, a bad primary */
+    /* of lent memory */
+    GONDZSELU_OUTPUT_TOO_SHORT = 5,
+    GONDZSELU_ILL_SIZED = 6, /* something else wrote the memories (RULES 8.9) */
+    /* of a step's bytes */
+    GONDZSELU_NO_SUCH_CODE = 10,
+    GONDZSELU_BYTE_NOT_ZERO = 11, /* one that the code does not name */
+    GONDZSELU_NO_SUCH_TASK = 12,
+    GONDZSELU_NO_SUCH_REGISTER = 13,
+    GONDZSELU_NO_SUCH_CARD = 14,
+    GONDZSELU_NO_SUCH_FUNCTION = 15,
+    /* of a task */
+    GONDZSELU_NOT_QUIET = 20,
+    GONDZSELU_WRONG_CONDITION = 21,  /* it does not ask for this; to report: it is not done */
+    GONDZSELU_COPIES_OTHERWISE = 22, /* for this step the copies would have to lie otherwise */
+    GONDZSELU_NO_REQUEST_LEFT = 23,
+    /* of the next move */
+    GONDZSELU_OUTBOX_EMPTY = 30,
+    GONDZSELU_NO_BROADCAST = 31,
+    GONDZSELU_NOT_IN_FLIGHT = 32,
+    GONDZSELU_INBOX_EMPTY = 33,
+    GONDZSELU_TOO_FAR_BEHIND = 34, /* some card is 64 broadcasts behind: it takes one first */
+    GONDZSELU_INBOX_FULL = 35      /* 32 undelivered broadcasts: the card delivers first */
+};
+
+/* ---- a whole run */
+
+/* Answers a run file (RULES 3) into an output of at least 2 + 5 * steps bytes (RULES 4). Gives 0,
+ * or 1 to 5 with the output as it was. Bytes past the answer stay as they were. */
+uint8_t gondzselu_answer(const uint8_t *file, size_t file_length,
+                         uint8_t *output, size_t output_length);
+
+/* The same, and counts the run's steps in the tally. A refusal, 1 to 5, leaves it alone. */
+uint8_t gondzselu_answer_counted(const uint8_t *file, size_t file_length,
+                                 uint8_t *output, size_t output_length,
+                                 gondzselu_tally *tally);
+
+/* ---- a store */
+
+/* Begins a store (RULES 10) on so many cards: the home card of each task; for each register the
+ * set of cards that hold a copy (bit i for card i) and its primary card. The lengths are the number
+ * of tasks and, twice, of registers. Sets every word of both memories. Gives 0, or 3 or 4 with both
+ * as they were. */
+uint8_t gondzselu_start(gondzselu_registers *registers, gondzselu_channel *channel,
+                        uint32_t cards,
+                        const uint8_t *homes, size_t homes_length,
+                        const uint8_t *copies, size_t copies_length,
+                        const uint8_t *primaries, size_t primaries_length);
+
+/* The same from the placement in a run file, whose steps are not taken. Gives 0, or 1 to 4 with
+ * both memories as they were. */
+uint8_t gondzselu_start_file(gondzselu_registers *registers, gondzselu_channel *channel,
+                             const uint8_t *file, size_t file_length);
+
+/* Takes a step: its code and its eight argument bytes (RULES 3.3), which gondzselu_fill_..
+ * writes. First checks the whole state. Gives 0, or 6 to 35 in the order of RULES 8.5 with both
+ * memories as they were. Writes the value in every case: what a reported read gave, else 0. */
+uint8_t gondzselu_step(gondzselu_registers *registers, gondzselu_channel *channel,
+                       uint8_t code, const uint8_t argument[8], uint32_t *value);
+
+/* The same, and counts its result in the tally: every refusal, 6 too (RULES 9.3). */
+uint8_t gondzselu_step_counted(gondzselu_registers *registers, gondzselu_channel *channel,
+                               uint8_t code, const uint8_t argument[8], uint32_t *value,
+                               gondzselu_tally *tally);
+
+/* gondzselu_step without its check of the state, which in a large store is nearly all of its time:
+ * some 22 ns instead of 0.6 to 1.5 microseconds. For a store that only this library has written
+ * since its start: on every well-sized state (RULES 8.6) it does what gondzselu_step does. On other
+ * words it ends and stays inside what it is lent; what it gives and writes then means nothing. */
+uint8_t gondzselu_advance(gondzselu_registers *registers, gondzselu_channel *channel,
+                          uint8_t code, const uint8_t argument[8], uint32_t *value);
+
+/* ---- a step's bytes */
+
+/* Writes all eight bytes; the operand low byte first. A number above 255 is written as 255, which
+ * is absent everywhere, so that none wraps into a present one: the step is refused. */
+static inline void gondzselu_fill_bytes(uint8_t argument[8], uint32_t byte0, uint32_t byte1,
+                                        uint32_t byte2, uint32_t operand) {
+    argument[0] = byte0 > 255 ? 255 : byte0 & 255;
+    argument[1] = byte1 > 255 ? 255 : byte1 & 255;
+    argument[2] = byte2 > 255 ? 255 : byte2 & 255;
+    argument[3] = 0;
+    for (int k = 4; k < 8; k++) {
+        argument[k] = operand & 255;
+        operand >>= 8;
+    }
+}
+
+/* One for each step: writes its argument and gives its code, so that a step may be
+ *   gondzselu_step(&s.registers, &s.channel, gondzselu_fill_report(argument, task), argument, &v)
+ */
+static inline uint8_t gondzselu_fill_request_read(uint8_t argument[8], uint32_t task,
+                                                  uint32_t register_number) {
+    gondzselu_fill_bytes(argument, task, register_number, 0, 0);
+    return GONDZSELU_REQUEST_READ;
+}
+
+/* The function is one of enum gondzselu_function. */
+static inline uint8_t gondzselu_fill_request_update(uint8_t argument[8], uint32_t task,
+                                                    uint32_t register_number,
+                                                    uint32_t function, uint32_t operand) {
+    gondzselu_fill_bytes(argument, task, register_number, function, operand);
+    return GONDZSELU_REQUEST_UPDATE;
+}
+
+static inline uint8_t gondzselu_fill_perform(uint8_t argument[8], uint32_t task) {
+    gondzselu_fill_bytes(argument, task, 0, 0, 0);
+    return GONDZSELU_PERFORM;
+}
+
+static inline uint8_t gondzselu_fill_send_read(uint8_t argument[8], uint32_t task,
+                                               uint32_t chosen_card) {
+    gondzselu_fill_bytes(argument, task, chosen_card, 0, 0);
+    return GONDZSELU_SEND_READ;
+}
+
+static inline uint8_t gondzselu_fill_send_update(uint8_t argument[8], uint32_t task) {
+    gondzselu_fill_bytes(argument, task, 0, 0, 0);
+    return GONDZSELU_SEND_UPDATE;
+}
+
+static inline uint8_t gondzselu_fill_dispatch(uint8_t argument[8], uint32_t card) {
+    gondzselu_fill_bytes(argument, card, 0, 0, 0);
+    return GONDZSELU_DISPATCH;
+}
+
+static inline uint8_t gondzselu_fill_take_broadcast(uint8_t argument[8], uint32_t card) {
+    gondzselu_fill_bytes(argument, card, 0, 0, 0);
+    return GONDZSELU_TAKE_BROADCAST;
+}
+
+/* The task whose message is in flight: the card that it goes to takes it (RULES 5.8). */
+static inline uint8_t gondzselu_fill_take_single(uint8_t argument[8], uint32_t task) {
+    gondzselu_fill_bytes(argument, task, 0, 0, 0);
+    return GONDZSELU_TAKE_SINGLE;
+}
+
+static inline uint8_t gondzselu_fill_deliver(uint8_t argument[8], uint32_t card) {
+    gondzselu_fill_bytes(argument, card, 0, 0, 0);
+    return GONDZSELU_DELIVER;
+}
+
+static inline uint8_t gondzselu_fill_report(uint8_t argument[8], uint32_t task) {
+    gondzselu_fill_bytes(argument, task, 0, 0, 0);
+    return GONDZSELU_REPORT;
+}
+
+/* ---- what a panel reads: these write nothing, check nothing and refuse nothing (RULES 11.7). What
+ * is read with no step between is one moment. */
+
+/* The value of a card's copy of a register; 0 for an absent card or register, and, in a store that
+ * only this library wrote, for a card without a copy. */
+uint32_t gondzselu_copy(const gondzselu_registers *registers, const gondzselu_channel *channel,
+                        uint32_t card, uint32_t register_number);
+
+/* What a task is doing, as enum gondzselu_condition; an absent task is quiet. */
+uint32_t gondzselu_task(const gondzselu_registers *registers, const gondzselu_channel *channel,
+                        uint32_t task);
+
+/* The value read in GONDZSELU_DONE_READ, the operand in GONDZSELU_ASKING_UPDATE, else 0. */
+uint32_t gondzselu_task_value(const gondzselu_registers *registers,
+                              const gondzselu_channel *channel, uint32_t task);
 
 /* Broadcasts made, and those that a card has taken (0 for an absent card). */
-uint32_t gondzselu_broadcasts(const uint32_t *channel);
-uint32_t gondzselu_broadcasts_taken(const uint32_t *channel, uint32_t card);
+uint32_t gondzselu_broadcasts(const gondzselu_channel *channel);
+uint32_t gondzselu_broadcasts_taken(const gondzselu_channel *channel, uint32_t card);
 
-/* Requests taken. */
-uint32_t gondzselu_requests(const uint32_t *registers);
+/* Requests taken; with GONDZSELU_REQUESTS_MAX of them the next one is refused with 23. */
+uint32_t gondzselu_requests(const gondzselu_registers *registers);
+
+/* The words of the memories, to be compared with those above. */
+size_t gondzselu_registers_words(void);
+size_t gondzselu_channel_words(void);
 
 #ifdef __cplusplus
 }

@@ -1,4 +1,4 @@
--- Each refusal of the channel says what document 01 says of it.
+-- Each refusal of the channel says what specs/RefusalMeanings says of it.
 use mathlib.Core.Path.{_≡_, refl, sym}
 use mathlib.Core.Logic.{_≢_}
 use mathlib.Core.Bool.{Bool, true, false, cond, _&&_}

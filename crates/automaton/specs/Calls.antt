@@ -1,5 +1,5 @@
--- Any list of calls of the channel, refused ones included, and what is promised of it. The calls' messages may repeat; a message's identity
--- is the number of the dispatch that was done with it.
+-- Any list of calls of the channel (RULES 5.6 to 5.9), refused ones included, and what is promised of it (000 §4). The calls' messages may
+-- repeat; a message's identity is the number of the dispatch that was done with it.
 use mathlib.Core.Path.{_≡_}
 use mathlib.Core.Bool.{Bool, true, cond, _&&_}
 use mathlib.Core.List.{List, [], _∷_, _++_}
@@ -54,7 +54,7 @@ module _ {M : Type 0} (C : Setup M) where
   abbrev pub done : ChannelState M → ChannelAction M → Bool
   done w x = C .inRange x && eqb (channelRefusal (C .mail) (C .cards) w x) 0
 
-  -- the state after a list of calls, newest first; "a refused one changes nothing"
+  -- the state after a list of calls, newest first; a refused one changes nothing (RULES 5.12)
   abbrev pub calls : List (ChannelAction M) → ChannelState M
   calls [] = initialChannel
   calls (x ∷ xs) = cond (done (calls xs) x) (channelStep (C .mail) (calls xs) x) (calls xs)

@@ -1,4 +1,4 @@
--- The channel's part of the named runs K9 and K10 (01, "Named runs"), computed: what is held, and when it is released.
+-- The channel's part of the named runs K9 and K10 (RULES 13), computed: what is held, and when it is released.
 use mathlib.Core.Path.{_≡_, refl}
 use mathlib.Core.Bool.{Bool, true, false, _||_}
 use mathlib.Core.List.{List, [], _∷_, _++_}
@@ -66,21 +66,21 @@ newest (x ∷ xs) l = newest xs (x ∷ l)
 abbrev after : List (ChannelAction Note) → ChannelState Note
 after xs = calls setup (newest xs [])
 
--- K9: card 2 sends the update; card 0 takes and receives it, then sends "set register 1 to 9"; step 8 brings that to card 1
+-- K9 (RULES 3.5): card 2 sends the update; card 0 takes and receives it, then sends the setting of register 1; step 8 brings that to card 1
 abbrev k9 : List (ChannelAction Note)
 k9 = dispatch 2 update ∷ takeBroadcast 0 ∷ deliver 0 ∷ dispatch 0 setting ∷ takeSingle 0 ∷ []
 
--- "tagged 1. Step 8 holds it at card 1"
+-- it is tagged 1, and held at card 1
 pub k9-held : (after k9) .held 1 ≡ record { msg = setting; mark = 1 } ∷ []
 unfolding channelRefusal each
 k9-held = refl
 
--- "step 9 there gives 33"
+-- step 9 there gives 33
 pub k9-empty : channelRefusal notes 3 (after k9) (deliver 1) ≡ 33
 unfolding channelRefusal each
 k9-empty = refl
 
--- "After card 1 takes broadcast 1, two deliveries set 7, then 9."
+-- when card 1 has taken broadcast 1, the update stands first in its inbox, then the setting
 pub k9-released : (after (k9 ++ (takeBroadcast 1 ∷ []))) .inbox 1 ≡ update ∷ setting ∷ []
 unfolding channelRefusal each
 k9-released = refl
@@ -89,7 +89,7 @@ pub k9-none-held : (after (k9 ++ (takeBroadcast 1 ∷ []))) .held 1 ≡ []
 unfolding channelRefusal each
 k9-none-held = refl
 
--- K10: "Card 1 delivers broadcast 1, then answers a read from task 0. The reply is held at card 0 until broadcast 1 is taken there."
+-- K10: card 1 receives broadcast 1, then replies to a read of task 0; the reply is held at card 0 until card 0 takes broadcast 1
 abbrev k10 : List (ChannelAction Note)
 k10 =
     dispatch 2 update ∷ takeBroadcast 1 ∷ deliver 1 ∷ dispatch 0 reading ∷ takeSingle 0 ∷ deliver 1 ∷ dispatch 1 reply ∷ takeSingle 0 ∷ []
@@ -106,8 +106,7 @@ pub k10-released : (after (k10 ++ (takeBroadcast 0 ∷ []))) .inbox 0 ≡ update
 unfolding channelRefusal each
 k10-released = refl
 
--- Two messages of one tag, which reach card 1 against the order in which they were sent: "held single messages whose tag equals the new
--- number join, in order of arrival".
+-- Two messages of one tag, which reach card 1 against the order in which they were sent: they join in order of arrival (RULES 6.5).
 abbrev arrivals : List (ChannelAction Note)
 arrivals =
     dispatch 2 update ∷ takeBroadcast 0 ∷ takeBroadcast 2 ∷ dispatch 0 setting ∷ dispatch 2 second ∷ takeSingle 2 ∷ takeSingle 0 ∷ []
@@ -120,7 +119,7 @@ pub arrivals-released : (after (arrivals ++ (takeBroadcast 1 ∷ []))) .inbox 1 
 unfolding channelRefusal each
 arrivals-released = refl
 
--- A card that is no destination counts a broadcast too: card 0 drops it, and what it sends then waits for it at card 1.
+-- A card that is no destination counts a broadcast too (RULES 6.2): card 0 drops it, and what it sends then waits for it at card 1.
 abbrev counted : List (ChannelAction Note)
 counted = dispatch 1 partial ∷ takeBroadcast 0 ∷ dispatch 0 setting ∷ takeSingle 0 ∷ []
 

@@ -1,4 +1,4 @@
--- The channel's state and operations (01, steps 6 to 9) and their refusals
+-- The channel's state and operations (RULES 5.6 to 5.9) and their refusals
 pub mod Mail
 pub mod State
 pub mod Renaming

@@ -1,4 +1,4 @@
--- What the channel reads off a message, whatever the message is.
+-- What the channel reads off a message, whatever the message is (RULES 6.1, 6.4).
 use Prim.Native.Nat.{ℕ}
 use mathlib.Core.Bool.{Bool}
 

@@ -1,4 +1,4 @@
--- What is fixed of the messages of a run: what the channel reads off each, that two of them can be told apart, and who sends each.
+-- What is fixed of the messages of a run (000 §6): what the channel reads off each, that two of them can be told apart, and who sends each.
 use mathlib.Core.Path.{_≡_}
 use mathlib.Core.Bool.{Bool, true, false}
 use Prim.Native.Nat.{ℕ}

@@ -1,4 +1,4 @@
--- The same channel with its messages under other names.
+-- The same channel with its messages under other names: a means of the proofs, no rule.
 use mathlib.Core.Path.{_≡_}
 use mathlib.Core.List.{map}
 use mathlib.Core.Option.{some, Option·map}

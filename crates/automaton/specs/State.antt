@@ -1,4 +1,4 @@
--- The channel's state as lists, and what its four operations do (01, steps 6 to 9; 000 Figure 7, with what BC and PP carry).
+-- The channel's state as lists, and what its four operations do (RULES 5.6 to 5.9, 6.1 to 6.5; 000 Figure 7, with what BC and PP carry).
 use Prim.Native.Nat.{ℕ, zero, suc}
 use mathlib.Core.Bool.{Bool, true, false, cond}
 use mathlib.Core.List.{List, [], _∷_, _++_}
@@ -20,7 +20,7 @@ pub record ChannelState (M : Type 0) : Type 0 where
   pub held : ℕ → List (Tagged M)  -- by card, in order of arrival (ppwait)
   pub inbox : ℕ → List M  -- by card, oldest first (msgs)
 
--- "At first .. every queue empty, nothing held or in flight, no broadcast made or taken."
+-- at the start (RULES 10.3)
 abbrev pub initialChannel : {M : Type 0} → ChannelState M
 initialChannel = record { sent = []; taken = λ i. zero; flight = λ c. none; held = λ i. []; inbox = λ i. [] }
 
@@ -50,17 +50,16 @@ pub data ChannelAction (M : Type 0) : Type 0 where
   takeSingle : ℕ → ChannelAction M  -- step 8: task
   deliver : ℕ → ChannelAction M  -- step 9: card
 
--- the message with its tag, "the number of broadcasts this card has taken"
+-- the message with its tag, the number of broadcasts that the sending card has taken (RULES 6.3)
 abbrev pub tagging : {M : Type 0} → ChannelState M → ℕ → M → Tagged M
 tagging w i m = record { msg = m; mark = w .taken i }
 
 module _ {M : Type 0} (mail : Mail M) where
-  -- "A tag at most the number taken there"
+  -- the tag is at most the number taken at the destination (RULES 5.8)
   abbrev pub ripe : ChannelState M → Tagged M → Bool
   ripe w x = leb (x .mark) (w .taken (mail .dest (x .msg)))
 
-  -- step 6 (mcast to BC or PP): "More than one destination: it gets the next broadcast number, from 1. One destination: it is tagged with
-  -- the number of broadcasts this card has taken and is in flight."
+  -- step 6 (mcast to BC or PP): the next broadcast, or tagged and in flight (RULES 5.6)
   abbrev pub dispatching : Bool → ChannelState M → ℕ → M → ChannelState M
   dispatching true w i m = record { sent = w .sent ++ (m ∷ []); taken = w .taken; flight = w .flight; held = w .held; inbox = w .inbox }
   dispatching false w i m = record {
@@ -71,8 +70,7 @@ module _ {M : Type 0} (mail : Mail M) where
     inbox = w .inbox;
   }
 
-  -- step 7 (receive from BC): "the card takes the next number. It joins the inbox if the card is a destination, else it is dropped. Then
-  -- held single messages whose tag equals the new number join, in order of arrival."
+  -- step 7 (receive from BC): the next broadcast joins or is dropped, then held messages with its number as tag join (RULES 5.7)
   abbrev pub taking : ChannelState M → ℕ → Option M → ChannelState M
   taking w i none = w
   taking w i (some m) = record {
@@ -83,7 +81,7 @@ module _ {M : Type 0} (mail : Mail M) where
     inbox = λ j. cond (eqb j i) (push (mail .to m i) m (w .inbox j) ++ released (suc (w .taken i)) (w .held j)) (w .inbox j);
   }
 
-  -- step 8 (receive from PP): "A tag at most the number taken there joins the inbox; a larger one is held."
+  -- step 8 (receive from PP): the message joins the inbox, or is held (RULES 5.8)
   abbrev pub landing : Bool → ChannelState M → ℕ → Tagged M → ChannelState M
   landing true w c x = record {
     sent = w .sent;
@@ -104,7 +102,7 @@ module _ {M : Type 0} (mail : Mail M) where
   arriving w c none = w
   arriving w c (some x) = landing (ripe w x) w c x
 
-  -- step 9 (receive): the head leaves the inbox
+  -- step 9 (receive): the head leaves the inbox (RULES 5.9)
   abbrev pub delivering : ChannelState M → ℕ → ChannelState M
   delivering w i = record { sent = w .sent; taken = w .taken; flight = w .flight; held = w .held; inbox = λ j. pop (eqb j i) (w .inbox j) }
 

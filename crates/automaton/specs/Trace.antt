@@ -1,4 +1,4 @@
--- Which steps of the automaton (Automaton) an operation of the channel's state (State) is, on a history, newest first.
+-- Which steps of the automaton (Automaton, 000 Figure 7) an operation of the channel's state (State) is, on a history, newest first.
 use mathlib.Core.Bool.{cond}
 use mathlib.Core.List.{List, [], _∷_}
 use mathlib.Core.Option.{Option, none, some}

@@ -1,5 +1,5 @@
--- The channel's part of the named runs K9 and K10 (01, "Named runs") on a memory: what the calls answer and hand up. The theorem leads
--- from the memory to the idealised channel, where they are computed.
+-- The channel's part of the named runs K9 and K10 (RULES 13) on a memory: what the calls answer and hand up. The theorem leads from the
+-- memory to the idealised channel, where they are computed.
 use Prim.Native.Nat.{ℕ}
 use mathlib.Core.Path.{_≡_, refl}
 use mathlib.Core.List.{List, [], _∷_}
@@ -31,11 +31,11 @@ card i = record { 0 = i }
 abbrev task : ℕ → Task
 task t = record { 0 = t }
 
--- "Task 2 sets register 0 to 7", on all three cards
+-- task 2 sets register 0 to 7, on all three cards
 abbrev shared : Message
 shared = about 2 0 (UpdateDo 1 7)
 
--- "set register 1 to 9", on card 1; and a read of register 1 with its reply
+-- task 0 sets register 1 to 9, on card 1; and a read of register 1 with its reply
 abbrev only-there : Message
 only-there = about 0 1 (UpdateDo 1 9)
 
@@ -57,7 +57,7 @@ module _ (ws : List ℕ) where
   follows : (cs : List Call) → RunFollows start cs
   follows = channel-follows ws 3 3 2 sizes
 
-  -- K9: "Step 8 holds it at card 1; step 9 there gives 33."
+  -- K9: step 8 holds the message at card 1, and step 9 there gives 33
   abbrev k9 : List Call
   k9 =
       receiveCall (card 1) ∷ takeSingleCall (task 0) ∷ dispatchCall (card 0) only-there 2 ∷ receiveCall (card 0) ∷ takeBroadcastCall (card 0)
@@ -67,7 +67,7 @@ module _ (ws : List ℕ) where
   unfolding refusalsAfter callRefusal channelRefusal fits addressed known cardsOf tasksOf registersOf beginMemory sizesFit begun several single soleOf sizeOf memberOf total turns each
   k9-held = follows k9 .answers
 
-  -- "After card 1 takes broadcast 1, two deliveries set 7, then 9."
+  -- when card 1 has taken broadcast 1, two deliveries set 7, then 9
   abbrev k9-taken : List Call
   k9-taken = takeBroadcastCall (card 1) ∷ k9
 
@@ -79,7 +79,7 @@ module _ (ws : List ℕ) where
   unfolding callRefusal channelRefusal fits addressed known cardsOf tasksOf registersOf beginMemory sizesFit begun several single soleOf sizeOf memberOf total turns each
   k9-second = follows (receiveCall (card 1) ∷ k9-taken) .hands (card 1)
 
-  -- K10: "Card 1 delivers broadcast 1, then answers a read from task 0. The reply is held at card 0 until broadcast 1 is taken there."
+  -- K10: card 1 delivers broadcast 1, then replies to a read of task 0; the reply is held at card 0 until card 0 takes broadcast 1
   abbrev k10 : List Call
   k10 =
       receiveCall (card 0) ∷ takeSingleCall (task 0) ∷ dispatchCall (card 1) answers 1 ∷ receiveCall (card 1) ∷ takeSingleCall (task 0) ∷ receiveCall (card 1)

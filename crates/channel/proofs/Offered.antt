@@ -42,7 +42,7 @@ registers-most ws = omega arith
 pub same-registers : (us ws : List ℕ) → SameSizes us ws → registersOf us ≡ registersOf ws
 same-registers us ws s = registers-words us ws (s .registers)
 
--- "Cards 1 to 8, registers 1 to 32, tasks 1 to 16"
+-- the sizes of RULES 1.3
 pub sizes-fit : (cards tasks registers : ℕ) → leb 1 cards ≡ true → leb cards 8 ≡ true → leb 1 tasks ≡ true → leb tasks 16 ≡ true → leb 1 registers ≡ true
     → leb registers 32 ≡ true → sizesFit cards tasks registers ≡ true
 unfolding sizesFit

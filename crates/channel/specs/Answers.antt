@@ -1,4 +1,4 @@
--- The numbers that document 01 gives to the channel's answers ("Who can cause which refusal"); 0 where the call is done.
+-- The numbers of the channel's answers (RULES 8.2); 0 where the call is done.
 use Prim.Native.Nat.{ℕ}
 use mathlib.Core.Bool.{Bool, true, false, cond}
 use Rattle.channel.specs.declared.Answer.{Answer}

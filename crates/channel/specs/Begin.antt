@@ -1,4 +1,4 @@
--- A channel's memory at the start ("At first .. every queue empty, nothing held or in flight, no broadcast made or taken").
+-- A channel's memory at the start (RULES 10.3).
 use Prim.Native.Nat.{ℕ}
 use mathlib.Core.Bool.{Bool, cond, _&&_}
 use mathlib.Core.List.{List}
@@ -8,7 +8,7 @@ use Rattle.channel.specs.declared.Answer.{Answer}
 use Rattle.channel.specs.declared.Answer.the-variants.{Done, BadSize}
 use Rattle.channel.specs.Layout.{cardsWord, tasksWord, registersWord}
 
--- "Cards 1 to 8, registers 1 to 32, tasks 1 to 16"
+-- the sizes of RULES 1.3
 unfoldable pub sizesFit : ℕ → ℕ → ℕ → Bool
 sizesFit cards tasks registers = leb 1 cards && leb cards 8 && leb 1 tasks && leb tasks 16 && leb 1 registers && leb registers 32
 
@@ -16,7 +16,7 @@ sizesFit cards tasks registers = leb 1 cards && leb cards 8 && leb 1 tasks && le
 unfoldable pub begun : ℕ → ℕ → ℕ → List ℕ
 begun cards tasks registers = set (set (set (replicate 4808 0) cardsWord cards) tasksWord tasks) registersWord registers
 
--- 3 "a size out of range"
+-- 3: a size is out of range
 unfoldable pub beginAnswer : ℕ → ℕ → ℕ → Answer
 beginAnswer cards tasks registers = cond (sizesFit cards tasks registers) Done BadSize
 

@@ -1,5 +1,4 @@
--- The channel's part of step 6: "More than one destination: it gets the next broadcast number, from 1. One destination: it is tagged with
--- the number of broadcasts this card has taken and is in flight."
+-- The channel's part of step 6 (RULES 5.6, 6.1 to 6.3).
 use Prim.Native.Nat.{ℕ, _+_}
 use mathlib.Core.Bool.{Bool, cond}
 use mathlib.Core.List.{List}
@@ -18,14 +17,14 @@ use Rattle.names.specs.Letters.{stored}
 use Rattle.channel.specs.Letters.{fits}
 use Rattle.channel.specs.TakeSingle.{noFlight}
 
--- one broadcast more leaves card i at most 64 behind
+-- one broadcast more leaves card i at most 64 behind (RULES 7.5)
 unfoldable pub nearAt : List ℕ → ℕ → Bool
 nearAt ws i = leb (madeOf ws + 1) (takenOf ws i + 64)
 
 unfoldable pub near : List ℕ → Bool
 near ws = each (cardsOf ws) (nearAt ws)
 
--- 34 "a broadcast would leave some card more than 64 behind"; 6 for the letter, and "broadcast numbers .. end at 65,535"
+-- 34: a card would be more than 64 behind; 6 for the letter, and for broadcast 65,536 (RULES 7.7)
 unfoldable pub castAnswer : List ℕ → Letter → Answer
 castAnswer ws l = cond (near ws) (cond (fits ws l) (cond (ltb (madeOf ws) 65535) Done IllSized) IllSized) FarBehind
 
@@ -33,7 +32,7 @@ unfoldable pub castMemory : List ℕ → Letter → List ℕ
 castMemory ws l =
     cond (isDone (castAnswer ws l)) (set (stored ws (broadcastBlock (madeOf ws + 1)) l (madeOf ws + 1)) madeWord (madeOf ws + 1)) ws
 
--- 6 for the letter, and "a task has at most one message in flight"
+-- 6 for the letter, and for a second message of the task in flight (RULES 7.4)
 unfoldable pub flyAnswer : List ℕ → Letter → Answer
 flyAnswer ws l = cond (fits ws l) (cond (noFlight ws (l .message .task .0)) Done IllSized) IllSized
 

@@ -1,4 +1,4 @@
--- A card's inbox, a ring of 48 blocks, "first in, first out"; and the channel's part of step 9, that the head leaves it.
+-- A card's inbox, a ring of 48 blocks, first in, first out (RULES 5.11, 7.2); and the channel's part of step 9, that the head leaves it (5.9).
 use Prim.Native.Nat.{ℕ, _%_}
 use mathlib.Core.Bool.{cond}
 use mathlib.Core.List.{List}
@@ -19,7 +19,7 @@ pushed ws i l = joined ws (countWord i) (placeOf ws i (countOf ws i)) 48 l
 unfoldable pub popped : List ℕ → ℕ → List ℕ
 popped ws i = headGone ws (headWord i) (countWord i) 48
 
--- and its message; 33 "inbox empty"
+-- and its message; 33: the inbox is empty
 unfoldable pub gotOf : List ℕ → ℕ → Received
 gotOf ws i = cond (eqb (countOf ws i) 0) Empty (Got (letterAt ws (inboxBlock i (headOf ws i % 48)) .message))
 

@@ -1,7 +1,7 @@
--- Where things lie in the channel's memory, 4,808 words that the caller lends. Word 0 is the number of cards, word 1 of tasks, word 2 of
--- registers, word 3 of broadcasts made; words 4 to 7 are zero. Then card after card, 520 words each: taken, head, inbox count, held count,
--- four spare words, 48 blocks of inbox (a ring), 16 blocks of held messages. Then a block for each task's message in flight, then the last
--- 64 broadcasts, number n in block n % 64 of them. A block has eight words (Letters) and starts at a multiple of eight.
+-- Where things lie in the channel's memory, 4,808 words that the caller lends (RULES 11.1). Word 0 is the number of cards, word 1 of tasks,
+-- word 2 of registers, word 3 of broadcasts made; words 4 to 7 are zero. Then card after card, 520 words each: taken, head, inbox count, held
+-- count, four spare words, 48 blocks of inbox (a ring), 16 blocks of held messages. Then a block for each task's message in flight, then the
+-- last 64 broadcasts, number n in block n % 64 of them. A block has eight words (Letters) and starts at a multiple of eight.
 use Prim.Native.Nat.{ℕ, _+_, _*_, _%_, min}
 use mathlib.Core.Bool.{cond}
 use mathlib.Core.List.{List}
@@ -50,7 +50,7 @@ flightBlock t = 521 + t
 abbrev pub broadcastBlock : ℕ → ℕ
 broadcastBlock n = 537 + n % 64
 
--- ---- the words read. "Cards 1 to 8, registers 1 to 32, tasks 1 to 16": a larger size, which no well-sized memory has, counts as the largest
+-- ---- the words read. A size above its limit (RULES 1.3), which no well-sized memory has, counts as the limit (11.9)
 
 unfoldable pub cardsOf : List ℕ → ℕ
 cardsOf ws = min (getD ws cardsWord 0) 8
@@ -85,6 +85,6 @@ heldCountOf ws i = getD ws (heldWord i) 0
 abbrev pub placeOf : List ℕ → ℕ → ℕ → ℕ
 placeOf ws i k = inboxBlock i ((headOf ws i % 48 + k) % 48)
 
--- what `taken` answers: an absent card has taken none
+-- what `taken` answers: an absent card has taken none (RULES 11.6)
 unfoldable pub takenBy : List ℕ → ℕ → ℕ
 takenBy ws i = cond (ltb i (cardsOf ws)) (takenOf ws i) 0

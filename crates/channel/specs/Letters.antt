@@ -1,4 +1,4 @@
--- Letters whose fields the channel can serve. An empty flight slot has kind 0 in its block.
+-- Letters whose fields the channel can serve (RULES 8.6 f, i). An empty flight slot has kind 0 in its block.
 use Prim.Native.Nat.{ℕ, _^_}
 use mathlib.Core.Bool.{Bool, _&&_}
 use mathlib.Core.List.{List}
@@ -11,7 +11,7 @@ use Rattle.channel.specs.Layout.{cardsOf, tasksOf, registersOf}
 unfoldable pub addressed : List ℕ → ℕ → Bool
 addressed ws to = leb 1 to && ltb to (2 ^ cardsOf ws)
 
--- 6: "destination or message field naming an absent card, task or register, or an unknown function"; and a message to nobody
+-- no field names what is absent, the function is known, and there is a destination; else 6
 unfoldable pub fits : List ℕ → Letter → Bool
 fits ws l =
     ltb (l .message .task .0) (tasksOf ws) && ltb (l .message .register .0) (registersOf ws) && known (l .message .body)

@@ -1,5 +1,5 @@
--- The calls that the channel offers, with any argument: what each does to a memory, by the definitions that the functions' contracts cite,
--- and which operation of the idealised channel over letters it is. `CallFollows` and `RunFollows` say that the two keep step.
+-- The calls that the channel offers (RULES 5.6 to 5.9), with any argument: what each does to a memory, by the definitions that the functions'
+-- contracts cite, and which operation of the idealised channel over letters it is. `CallFollows` and `RunFollows` say that the two keep step.
 use Prim.Native.Nat.{ℕ}
 use mathlib.Core.Path.{_≡_}
 use mathlib.Core.Logic.{_≢_}
@@ -93,7 +93,7 @@ module _ (ms : List ℕ) where
   unfit (takeSingle t) = 0
   unfit (deliver i) = 0
 
-  -- "rising number, then 6 for the outcome"
+  -- rising number, then 6 for the outcome (RULES 8.5)
   unfoldable pub callRefusal : ChannelState Letter → ChannelAction Letter → ℕ
   callRefusal w x = orElse (absent x) (orElse (channelRefusal letterMail (cardsOf ms) w x) (unfit x))
 

@@ -1,4 +1,4 @@
--- What a memory shows of the channel's idealised state.
+-- What a memory (Layout) shows of the channel's idealised state (automaton/specs/State).
 use Prim.Native.Nat.{ℕ, _+_, _%_, _<_, _≤_}
 use mathlib.Core.Path.{_≡_}
 use mathlib.Core.Bool.{cond}

@@ -1,8 +1,5 @@
--- A well-sized memory: what a step must find, else it is refused with 6 ("an ill-sized state: a size, number or queue length past its
--- limit .. A home, destination or message field naming an absent card, task or register, or an unknown function, is past its limit too. So
--- is a card's number of broadcasts taken when it is above the number made or more than 64 below it"). The parts of absent cards and tasks
--- are not looked at. No fault, since 01 lists none of them: more than 32 broadcasts in an inbox of at most 48; a tag above the number made but
--- not past its limit; a message in the inbox of a card, or held for one, that is no destination of it; another task's message in a slot.
+-- A well-sized memory: what a step must find, else it is refused with 6 (RULES 8.6, parts a to k). The parts of absent cards and tasks are
+-- not looked at. What is no fault says 8.7.
 use Prim.Native.Nat.{ℕ, _+_, _-_, min}
 use mathlib.Core.Bool.{Bool, _&&_, _||_}
 use mathlib.Core.List.{List}
@@ -16,8 +13,8 @@ use Rattle.channel.specs.Letters.{fits}
 use Rattle.channel.specs.Begin.{sizesFit}
 use Rattle.channel.specs.TakeSingle.{noFlight}
 
--- block b of memory ws has a message, and no field of it is past its limit, which the sizes of the channel's memory cs give; a tag is a
--- broadcast number, and "broadcast numbers .. end at 65,535". The rule for every block, in whichever memory it lies.
+-- block b of memory ws has a message (i), and no field of it is past its limit (f, i), which the sizes of the channel's memory cs give, nor its
+-- tag (g). The rule for every block, in whichever memory it lies.
 unfoldable pub blockFits : List ℕ → List ℕ → ℕ → Bool
 blockFits cs ws b = leb 1 (kindAt ws b) && leb (kindAt ws b) 4 && leb (tagAt ws b) 65535 && fits cs (letterAt ws b)
 
@@ -29,17 +26,15 @@ inboxFits ws i k = blockFits ws ws (placeOf ws i k)
 unfoldable pub heldFits : List ℕ → ℕ → ℕ → Bool
 heldFits ws i k = blockFits ws ws (heldBlock i k)
 
--- the flight slot of task t: empty, or a message with exactly one destination. Beyond 01's list: step 8 says that the message "reaches its
--- destination", and without exactly one no move is defined.
+-- the flight slot of task t: empty, or a message with exactly one destination (k), which step 8 takes it to
 unfoldable pub flightFits : List ℕ → ℕ → Bool
 flightFits ws t = noFlight ws t || (blockFits ws ws (flightBlock t) && single (letterAt ws (flightBlock t) .to))
 
--- broadcast n, with more than one destination. Beyond 01's list: "More than one destination" is what makes a message a broadcast, so the
--- number of destinations is how one is known.
+-- broadcast n, with more than one destination (k), which makes it a broadcast (RULES 6.1)
 unfoldable pub broadcastFits : List ℕ → ℕ → Bool
 broadcastFits ws n = blockFits ws ws (broadcastBlock n) && several (letterAt ws (broadcastBlock n) .to)
 
--- the counts of card i: "an inbox 48, and at most 16 messages are held"; taken neither above the number made nor more than 64 below it
+-- the counts of card i: taken neither above the number made nor more than 64 below it (h); where its inbox starts (j); queue lengths (c)
 unfoldable pub countsFit : List ℕ → ℕ → Bool
 countsFit ws i =
     leb (takenOf ws i) (madeOf ws) && leb (madeOf ws) (takenOf ws i + 64)
@@ -53,7 +48,7 @@ cardFits ws i = countsFit ws i && each (min (countOf ws i) 48) (inboxFits ws i) 
 unfoldable pub recentFits : List ℕ → ℕ → Bool
 recentFits ws k = broadcastFits ws (madeOf ws - k)
 
--- the sizes, and "broadcast numbers .. end at 65,535"
+-- the sizes (a), and the broadcasts made (b)
 unfoldable pub headFits : List ℕ → Bool
 headFits ws = sizesFit (getD ws cardsWord 0) (getD ws tasksWord 0) (getD ws registersWord 0) && leb (madeOf ws) 65535
 

@@ -1,5 +1,4 @@
--- Step 7: "the card takes the next number. It joins the inbox if the card is a destination, else it is dropped. Then held single messages
--- whose tag equals the new number join, in order of arrival."
+-- Step 7 (RULES 5.7, 6.2, 6.5).
 use Prim.Native.Nat.{ℕ, _+_, min}
 use mathlib.Core.Bool.{Bool, cond}
 use mathlib.Core.List.{List}
@@ -76,7 +75,7 @@ nextLetter ws i = letterAt ws (broadcastBlock (takenOf ws i + 1))
 abbrev pub nextThere : List ℕ → ℕ → Bool
 nextThere ws i = memberOf (nextLetter ws i .to) i
 
--- 35 "the card is a destination and its inbox already has 32 undelivered broadcasts"; 6 "an inbox 48"
+-- 35: the card is a destination with 32 undelivered broadcasts (RULES 7.6); 6: a 49th message in the inbox (7.2)
 unfoldable pub roomAnswer : List ℕ → ℕ → ℕ → Bool → Answer
 roomAnswer ws i n there =
     cond there
@@ -91,7 +90,7 @@ abbrev pub nextMemory : List ℕ → ℕ → ℕ → List ℕ
 nextMemory ws i n =
     cond (isDone (nextAnswer ws i n)) (joined ws i n (letterAt ws (broadcastBlock n)) (memberOf (letterAt ws (broadcastBlock n) .to) i)) ws
 
--- 14 an absent card; 31 "no broadcast to take"
+-- 14 an absent card; 31: no broadcast to take
 unfoldable pub takeAnswer : List ℕ → Card → Answer
 takeAnswer ws card =
     cond (ltb (card .0) (cardsOf ws))

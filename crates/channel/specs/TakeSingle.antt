@@ -1,5 +1,4 @@
--- Step 8: "the named task's message in flight reaches its destination. A tag at most the number taken there joins the inbox; a larger one
--- is held."
+-- Step 8 (RULES 5.8).
 use Prim.Native.Nat.{ℕ, _+_, _*_}
 use mathlib.Core.Bool.{Bool, cond}
 use mathlib.Core.List.{List}
@@ -46,7 +45,7 @@ landed ws t i l tag joins =
     let us : List ℕ = set ws (flightBlock t * 8) 0 in
     cond joins (pushed us i l) (heldMore us i l tag)
 
--- 6 "an inbox 48, and at most 16 messages are held"
+-- 6: a 49th message in the inbox (RULES 7.2), or a 17th held (7.3)
 unfoldable pub landAnswer : List ℕ → ℕ → Bool → Answer
 landAnswer ws i joins = cond joins (unlessFull (leb 48 (countOf ws i))) (unlessFull (leb 16 (heldCountOf ws i)))
 
@@ -61,7 +60,7 @@ reachMemory ws t =
     (landed ws t (flightTo ws t) (flightLetter ws t) (flightTag ws t) (joinsAt ws (flightTo ws t) (flightTag ws t)))
     ws
 
--- 12 an absent task; 32 "nothing of that task in flight"
+-- 12 an absent task; 32: nothing of it in flight
 unfoldable pub singleAnswer : List ℕ → Task → Answer
 singleAnswer ws task =
     cond (ltb (task .0) (tasksOf ws))

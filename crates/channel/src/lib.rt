@@ -25,7 +25,7 @@ pub use send::dispatch;
 pub use single::take_single;
 pub use sized::well_sized;
 
-// What a call answers; `answerNumber` gives document 01's number of each.
+// What a call answers; `answerNumber` gives the number of each (RULES 8.2).
 pub enum Answer {
     Done,
     BadSize,
@@ -38,7 +38,7 @@ pub enum Answer {
     Crowded,
 }
 
-// What receiving finds; `receivedNumber` gives document 01's number of each.
+// What receiving finds; `receivedNumber` gives the number of each (RULES 8.2).
 pub enum Received {
     Got(Message),
     NoSuchCard,

@@ -73,18 +73,21 @@ fn rounds(memory: &mut [u32; 4808], start: u32) -> u32 {
     sum
 }
 
-fn wide(x: u32) -> u64 {
-    x as u64
+fn sum_of_all(memory: &mut [u32; 4808]) -> u32 {
+    let mut sum: u32 = 0;
+    let mut k: u32 = 0;
+    while k < 8 {
+        sum = rounds(memory, sum);
+        k += 1;
+    }
+    sum
 }
 
 fn main() {
     let mut memory = [0u32; 4808];
-    let mut sum: u32 = 0;
-    let mut k: u32 = 0;
-    while k < 8 {
-        sum = rounds(&mut memory, sum);
-        k += 1;
-    }
-    io::print_decimal(1, wide(sum));
-    io::write_all(1, b"\n");
+    let sum = sum_of_all(&mut memory);
+    let mut page = io::large_buffer();
+    let a = console::count(&mut page, 0, sum);
+    let b = console::put(&mut page, a, b'\n');
+    console::finish(&page, b, b"channel_pace");
 }

@@ -1,5 +1,5 @@
 -- SerialOrder's field `applied` says no more than `copies`: an update is applied only on cards that hold a copy of its register, which shows it.
--- So no history tells the two apart, and `applied` is there to say what 01 says, "exactly the reported operations and the updates applied".
+-- So no history tells the two apart, and `applied` is there to say what RULES 12.8 a says, every update applied on some card.
 use Prim.Native.Nat.{ℕ}
 use mathlib.Core.Bool.{true}
 use mathlib.Core.List.{List, map}

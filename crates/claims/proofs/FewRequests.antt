@@ -1,4 +1,4 @@
--- 23 "a request after 65,535 taken" asks as many steps before it: a step takes one request at most.
+-- 23 asks as many steps before it as requests (RULES 7.8, 12.10): a step takes one request at most.
 use Prim.Native.Nat.{suc, ℕ, _+_, _≤_}
 use lib.Dec.{eqb}
 use lib.ListN.{length}

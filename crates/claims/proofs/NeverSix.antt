@@ -165,7 +165,7 @@ module _ (P : Placement) (ok : placementRefusal P ≡ 0) where
     steady-shown : Steady P (shown P ds)
     steady-shown = subst (Steady P) (together P ok l) (steady P l)
 
-    -- "No state reached by calls from a start ever gives 6", for the outcome of any step
+    -- no step gives 6 in a state reached from a start (RULES 12.10), for the outcome of any step
     pub never-6 : (a : RawStep) → refusalOf P (finalFrom P begin l) a ≡ 6 → ⊥
     never-6 a e = go (refusal-exact P a (shown P ds) 6 (λ z. omega arith) .0 (ap (λ s. refusalOf P s a) (sym (together P ok l)) ∙ e))
       where

@@ -32,7 +32,7 @@ use Rattle.registers.specs.Layer as R
 use Rattle.claims.specs.Ledger as L
 use Rattle.claims.specs.Refusals as S
 
--- the values of the published algorithm; "every copy starts at 0"
+-- the values of the published algorithm; every copy starts at 0 (RULES 1.4)
 abbrev pub numbers : Values
 numbers = record { Val = ℕ; nought = λ x. 0; apply = updated; same = eqb; same-eq = eqb-true; same-refl = eqb-refl }
 

@@ -1,5 +1,5 @@
--- Which decoded steps the published algorithm may take: the preconditions of Figures 5 and 7 (`allowed`), with what BC and PP have to hand
--- out, and the limits of 01 (`within`). A step is taken exactly if both hold.
+-- Which decoded steps the published algorithm may take (RULES 5.1 to 5.10): the preconditions of 000 Figures 5 and 7 (`allowed`), with what BC
+-- and PP have to hand out, and the limits (`within`, RULES 7). A step is taken exactly if both hold.
 use Prim.Native.Nat.{ℕ, suc, _+_}
 use mathlib.Core.Bool.{Bool, true, false, cond, _&&_, not}
 use mathlib.Core.List.{List, [], _∷_, _++_}
@@ -87,7 +87,7 @@ module _ (P : Placement) where
 
   -- ---- the limits
 
-  -- "an outbox has at most 16 messages"; a message has a destination
+  -- an outbox has room (RULES 7.1); a message has a destination (8.8)
   abbrev pub updateFits : List Letter → Doing → Bool
   updateFits l quiet = true
   updateFits l (askingRead x) = true
@@ -96,7 +96,7 @@ module _ (P : Placement) where
   updateFits l (doneRead v) = true
   updateFits l doneUpdate = true
 
-  -- no card more than 64 behind, "broadcast numbers .. end at 65,535"; "a task has at most one message in flight"
+  -- no card more than 64 behind (RULES 7.5), at most 65,535 broadcasts (7.7); at most one message of a task in flight (7.4)
   abbrev pub dispatchFits : ChannelState Letter → List Letter → Bool
   dispatchFits w [] = true
   dispatchFits w (m ∷ r) =
@@ -104,24 +104,26 @@ module _ (P : Placement) where
       (each (P .cards) (λ i. leb (suc (length (w .sent))) (w .taken i + 64)) && ltb (length (w .sent)) 65535)
       (not (isThere (w .flight (m .task))))
 
-  -- 32 undelivered broadcasts, "an inbox 48"
+  -- at most 32 undelivered broadcasts (RULES 7.6), and 48 messages in an inbox (7.2)
   abbrev pub takeFits : ChannelState Letter → ℕ → Option Letter → Bool
   takeFits w i none = true
   takeFits w i (some m) =
       not (mail .to m i && leb 32 (length (filter (mail .multi) (w .inbox i))))
       && leb (length (push (mail .to m i) m (w .inbox i) ++ released (suc (w .taken i)) (w .held i))) 48
 
-  -- "an inbox 48, and at most 16 messages are held"
+  -- at most 48 messages in an inbox (RULES 7.2), and 16 held (7.3)
   abbrev pub singleFits : ChannelState Letter → Option (Tagged Letter) → Bool
   singleFits w none = true
   singleFits w (some x) =
       cond (leb (x .mark) (w .taken (mail .dest (x .msg)))) (ltb (length (w .inbox (mail .dest (x .msg)))) 48)
       (ltb (length (w .held (mail .dest (x .msg)))) 16)
 
+  -- an outbox has room for the reply, where there is one (RULES 7.1)
   abbrev pub deliverFits : ℕ → List Letter → List Letter → Bool
   deliverFits i l [] = true
   deliverFits i l (m ∷ r) = cond (answered P m i) (ltb (length l) 16) true
 
+  -- of requests at most 65,535 (RULES 7.8)
   abbrev pub within : Published → Command → Bool
   within s (request-read c x) = ltb (s .requests) 65535
   within s (request-update c x f w) = ltb (s .requests) 65535

@@ -1,4 +1,4 @@
--- The ten steps, decoded (01, "The ten steps").
+-- The ten steps, decoded (RULES 5.1 to 5.10).
 use Prim.Native.Nat.{ℕ}
 
 pub data Command : Type 0 where

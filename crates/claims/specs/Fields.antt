@@ -1,5 +1,5 @@
--- SerialOrder's fields one by one, and what it is for one of them to be needed: a small history and a list of operations, answers and a table
--- that all the other fields take for a serial order of it, and this one does not.
+-- SerialOrder's fields (RULES 12.8) one by one, and what it is for one of them to be needed: a small history and a list of operations, answers
+-- and a table that all the other fields take for a serial order of it, and this one does not.
 use Prim.Native.Nat.{ℕ, _<_}
 use mathlib.Core.Path.{_≡_}
 use mathlib.Core.Logic.{_⊎_}

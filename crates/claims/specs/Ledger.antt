@@ -1,5 +1,4 @@
--- The ledger on paper (01, "What demand 3 speaks of"): "A ledger on paper follows the list. It is fed the placement and the steps' codes and
--- arguments, nothing of the store's state or answers."
+-- The ledger on paper (RULES 12.3). It is given the placement, the codes and the arguments, and nothing of the store or its answers.
 use Prim.Native.Nat.{ℕ}
 use mathlib.Core.Bool.{Bool, true, false, cond, _&&_}
 use mathlib.Core.List.{List, [], _∷_, _++_}
@@ -22,7 +21,7 @@ use Rattle.claims.specs.Refusals as S
 
 -- ---- what it writes down
 
--- "A taken 1 or 2 opens an operation, .. with its task, register and, for an update, function and operand."
+-- an operation (RULES 12.4)
 pub record Op : Type 0 where
   pub task : ℕ
   pub reg : ℕ
@@ -42,14 +41,14 @@ updateOp P c x f w = record { task = c; reg = x; upd = true; fn = f; arg = w; ho
 abbrev pub noOp : Op
 noOp = record { task = 0; reg = 0; upd = false; fn = 0; arg = 0; holders = 0; primary = 0 }
 
--- With values U or, on paper, without: "values left out" is `unvalued`. The ledger that demand 3 speaks of (SerialOrder) is the one without.
+-- With values U or, on paper, without (`unvalued`). The ledger that demand 3 speaks of (SerialOrder) is the one without (RULES 12.3).
 pub record Ledger (U : Values) : Type 0 where
-  pub ops : List Op  -- the operations, "numbered from 0 in the order taken"
+  pub ops : List Op  -- the operations, numbered from 0 in the order taken
   pub chosen : ℕ → Option ℕ  -- by operation: the holder that a taken 4 chose
   pub layer : State U  -- what each task does, the outboxes, the updates applied on each card (the register layer)
   pub channel : ChannelState (Msg U)  -- broadcasts made and taken, messages in flight and held, inboxes (the channel)
 
--- "At first every task is quiet, every queue empty, nothing held or in flight, no broadcast made or taken."
+-- it begins as a store does (RULES 10.3)
 abbrev pub initialLedger : {U : Values} → Ledger U
 initialLedger {U} = record { ops = []; chosen = λ k. none; layer = start U; channel = initialChannel }
 
@@ -88,7 +87,7 @@ abbrev pub headed : {U : Values} → List (Msg U) → (Msg U → Action U) → O
 headed [] f = none
 headed (m ∷ l) f = some (f m)
 
--- "An operation is reported by its task's next taken 10."
+-- what a step is, where it is taken: a 10 reports the operation that its task is done with (RULES 12.5)
 abbrev pub plan : {U : Values} → Placement → Ledger U → Command → Option (Action U)
 plan P b (K.request-read c x) = some (Action.request (readOp P c x))
 plan P b (K.request-update c x f w) = some (Action.request (updateOp P c x f w))
@@ -133,7 +132,7 @@ noted (some d) ds = d ∷ ds
 abbrev pub setsOf : List Op → ℕ → ℕ
 setsOf ops k = (opAt ops k) .holders
 
--- "Each message carries its operation's number, a reply that of the message it answers." What the channel reads off a message:
+-- A message carries its operation's number; a reply, that of the message that it answers (RULES 12.4). What the channel reads off a message:
 module _ {U : Values} (sets : ℕ → ℕ) (W : World U) where
   abbrev pub wide : Msg U → Bool
   wide (ask k) = W .upd k && several (sets k)
@@ -173,8 +172,7 @@ module _ {U : Values} (P : Placement) where
   abbrev pub channelAfter : Ledger U → ChannelAction (Msg U) → ChannelState (Msg U)
   channelAfter b x = channelStep (ledgerMail b) (b .channel) x
 
-  -- "done as the ten steps say". "An update is applied on a card when a taken 3 performs it there or a taken 9 there
-  -- delivers its update message": the register layer's `applied`.
+  -- what a taken step does; an update is applied (RULES 12.6) as the register layer's `applied` says
   abbrev pub step : Ledger U → Action U → Ledger U
   step b (request o) = record {
     ops = b .ops ++ (o ∷ []);
@@ -195,7 +193,7 @@ module _ {U : Values} (P : Placement) where
   ledger [] = initialLedger
   ledger (d ∷ ds) = step (ledger ds) d
 
-  -- ---- which steps are taken: "Each step is taken or refused by the rules above"
+  -- ---- which steps are taken, and with which number the others are refused
 
   -- the requests taken are the operations
   abbrev pub sightOf : Ledger U → Sight (Msg U)
@@ -212,7 +210,7 @@ module _ {U : Values} (P : Placement) where
   abbrev pub numberOf : Ledger U → RawStep → ℕ
   numberOf b s = decodedNumber b (decode P s)
 
-  -- ---- following the list: "a refused one changes nothing"
+  -- ---- following the list: a refused step changes nothing (RULES 5.12)
 
   abbrev pub notes : List (Action U) → Decoded → List (Action U)
   notes ds (bad n) = ds

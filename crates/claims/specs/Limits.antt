@@ -1,6 +1,4 @@
--- The limits within which every state reached from a start stays (01, "The ten steps": "Of any card, an outbox has at most 16 messages, an
--- inbox 48, and at most 16 messages are held; a task has at most one message in flight; broadcast numbers and taken requests end at
--- 65,535"). So "No state reached by calls from a start ever gives 6".
+-- The limits within which every state reached from a start stays (RULES 7.1 to 7.8). So no step of a run gives 6 (12.10).
 use Prim.Native.Nat.{ℕ, _+_, _≤_, _<_}
 use mathlib.Core.Path.{_≡_}
 use mathlib.Core.Option.{some}
@@ -22,5 +20,5 @@ module _ {M : Type 0} (mail : Mail M) (cards : ℕ) where
     -- broadcasts made are at most the requests taken
     pub broadcasts : length (s .channel .sent) ≤ s .requests
     pub requests : s .requests ≤ 65535
-    -- "a card's number of broadcasts taken" is neither above the number made nor more than 64 below it
+    -- the broadcasts that a card has taken are neither above those made nor more than 64 below
     pub counts : (i : ℕ) → i < cards → (s .channel .taken i ≤ length (s .channel .sent)) × (length (s .channel .sent) ≤ s .channel .taken i + 64)

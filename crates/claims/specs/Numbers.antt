@@ -1,6 +1,6 @@
--- When each refusal comes, in plain terms (01, "Who can cause which refusal"). `Misformed P a n`: step a is refused with n, one of 10 to 15,
--- for itself. `Comes P s n c`: in state s the decoded step c is refused with n, one of 20 to 35 or 6 for the outcome. "Step: .. rising
--- number, then 6 for the outcome": each case says what the lower numbers ask too, where it is not said by the case itself.
+-- When each refusal comes, in plain terms (RULES 8.2). `Misformed P a n`: step a is refused with n, one of 10 to 15, for itself.
+-- `Comes P s n c`: in state s the decoded step c is refused with n, one of 20 to 35 or 6 for the outcome. The lowest comes, 6 for the outcome
+-- last (8.5): each case says what the lower numbers ask too, where it is not said by the case itself.
 use Prim.Native.Nat.{ℕ, suc, _+_, _≤_, _<_}
 use mathlib.Core.Path.{_≡_}
 use mathlib.Core.Logic.{_⊎_}
@@ -25,8 +25,7 @@ use Rattle.claims.specs.Published.{Doing, quiet, askingRead, askingUpdat
 abbrev pub byte : RawStep → ℕ → ℕ
 byte a k = getD (a .argument) k 0
 
--- what the code names: "byte 0 is the task for codes 1, 2, 3, 4, 5, 8, 10 and the card for 6, 7, 9; byte 1 the register for 1 and 2, the
--- chosen card for 4; byte 2 the function for 2"
+-- what the code names (RULES 3.3)
 pub data OfTask : ℕ → Type 0 where
   one : OfTask 1
   two : OfTask 2
@@ -49,7 +48,7 @@ pub data OfRegister : ℕ → Type 0 where
 abbrev pub Known : RawStep → Type 0
 Known a = (1 ≤ a .code) × (a .code ≤ 10)
 
--- place k is not named by the code: "byte 3 zero", "Unnamed bytes are zero"
+-- place k is not named by the code (RULES 3.3, 3.4)
 pub data Unnamed (n : ℕ) : ℕ → Type 0 where
   at-1 : ¬ OfRegister n → ¬ (n ≡ 4) → Unnamed n 1
   at-2 : ¬ (n ≡ 2) → Unnamed n 2
@@ -65,12 +64,12 @@ Clean a = (k : ℕ) → Unnamed (a .code) k → byte a k ≡ 0
 
 module _ (P : Placement) (a : RawStep) where
   pub data Misformed : ℕ → Type 0 where
-    -- 10 "unknown code"
+    -- 10: the code is not 1 to 10
     code-zero : a .code ≡ 0 → Misformed 10
     code-high : 10 < a .code → Misformed 10
-    -- 11 "an unnamed byte not zero"
+    -- 11: a byte that the code does not name is not zero
     unnamed : Known a → (k : ℕ) → Unnamed (a .code) k → ¬ (byte a k ≡ 0) → Misformed 11
-    -- "12 task, 13 register, 14 card, 15 function out of range"
+    -- 12 the task, 13 the register, 14 the card is absent; 15: the function is not 1 to 4
     no-task : Clean a → OfTask (a .code) → tasks P ≤ byte a 0 → Misformed 12
     no-register : Clean a → OfRegister (a .code) → byte a 0 < tasks P → registers P ≤ byte a 1 → Misformed 13
     no-card : Clean a → OfCard (a .code) → P .cards ≤ byte a 0 → Misformed 14
@@ -98,7 +97,7 @@ module _ (P : Placement) (s : Published) where
   abbrev pub taken : ℕ → ℕ
   taken i = s .channel .taken i
 
-  -- "undelivered broadcasts": how many messages in card i's inbox came by broadcast
+  -- undelivered broadcasts (RULES 1.7): how many messages in card i's inbox came by broadcast
   abbrev pub undelivered : ℕ → ℕ
   undelivered i = length (filter (mail .multi) (s .channel .inbox i))
 
@@ -107,33 +106,33 @@ module _ (P : Placement) (s : Published) where
   inboxAfter i m = push (mail .to m i) m (s .channel .inbox i) ++ released (suc (taken i)) (s .channel .held i)
 
   pub data Comes : ℕ → Command → Type 0 where
-    -- 20 "request while not quiet"
+    -- 20: the task is not quiet
     busy-read : {c x : ℕ} → ¬ (s .status c ≡ quiet) → Comes 20 (request-read c x)
     busy-update : {c x f w : ℕ} → ¬ (s .status c ≡ quiet) → Comes 20 (request-update c x f w)
-    -- 21 "not asking (3, 4, 5; 4 wants a read, 5 an update), or not done (10)"
+    -- 21: the task does not ask (3), not to read (4), not to update (5), is not done (10)
     not-asking : {c : ℕ} → ¬ AsksRead (s .status c) → ¬ AsksUpdate (s .status c) → Comes 21 (perform c)
     not-read : {c j : ℕ} → ¬ AsksRead (s .status c) → Comes 21 (send-read c j)
     not-update : {c : ℕ} → ¬ AsksUpdate (s .status c) → Comes 21 (send-update c)
     not-done : {c : ℕ} → ¬ IsDone (s .status c) → Comes 21 (report c)
-    -- 22 "copies lie otherwise than steps 3 to 5 say"
+    -- 22: copies lie otherwise than steps 3 to 5 ask
     no-copy : {c : ℕ} (x : ℕ) → s .status c ≡ askingRead x → copy P x (home P c) ≡ false → Comes 22 (perform c)
     not-alone : {c : ℕ} (x f w : ℕ) → s .status c ≡ askingUpdate x f w → alone P x (home P c) ≡ false → Comes 22 (perform c)
     copy-here : {c j : ℕ} (x : ℕ) → s .status c ≡ askingRead x → copy P x (home P c) ≡ true → Comes 22 (send-read c j)
     no-holder : {c j : ℕ} (x : ℕ) → s .status c ≡ askingRead x → copy P x j ≡ false → Comes 22 (send-read c j)
     alone-here : {c : ℕ} (x f w : ℕ) → s .status c ≡ askingUpdate x f w → alone P x (home P c) ≡ true → Comes 22 (send-update c)
-    -- 23 "a request after 65,535 taken"
+    -- 23: 65,535 requests were taken before
     last-read : {c x : ℕ} → s .status c ≡ quiet → 65535 ≤ s .requests → Comes 23 (request-read c x)
     last-update : {c x f w : ℕ} → s .status c ≡ quiet → 65535 ≤ s .requests → Comes 23 (request-update c x f w)
-    -- 30 "outbox empty"; 31 "no broadcast to take"; 32 "nothing of that task in flight"; 33 "inbox empty"
+    -- 30: the outbox is empty; 31: all broadcasts made are taken; 32: nothing of the task is in flight; 33: the inbox is empty
     no-letter : {i : ℕ} → s .out i ≡ [] → Comes 30 (dispatch i)
     no-broadcast : {i : ℕ} → made ≤ taken i → Comes 31 (takeBroadcast i)
     none-in-flight : {c : ℕ} → s .channel .flight c ≡ none → Comes 32 (takeSingle c)
     no-message : {i : ℕ} → s .channel .inbox i ≡ [] → Comes 33 (deliver i)
-    -- 34 "a broadcast would leave some card more than 64 behind": the head has more than one destination and card j is 64 behind
+    -- 34: the head has more than one destination and card j is 64 behind
     far-behind : {i : ℕ} (m : Letter) (r : List Letter) (j : ℕ) → s .out i ≡ m ∷ r → several (m .to) ≡ true → j < P .cards → taken j + 64 ≤ made → Comes 34 (dispatch i)
-    -- 35 "the card is a destination and its inbox already has 32 undelivered broadcasts"
+    -- 35: the card is a destination and its inbox already has 32 undelivered broadcasts
     crowded : {i : ℕ} (m : Letter) → nth (s .channel .sent) (taken i) ≡ some m → memberOf (m .to) i ≡ true → 32 ≤ undelivered i → Comes 35 (takeBroadcast i)
-    -- 6 "a step that would make one": an outbox past 16 (steps 4, 5, 9), a message to nobody, broadcast 65,536, a second message of a task in
+    -- 6 for the outcome (RULES 8.8): an outbox past 16 (steps 4, 5, 9), a message to nobody, broadcast 65,536, a second message of a task in
     -- flight, an inbox past 48, a 17th message held
     outbox-full-read : {c j : ℕ} (x : ℕ) → s .status c ≡ askingRead x → copy P x (home P c) ≡ false → copy P x j ≡ true → 16 ≤ length (s .out (home P c)) → Comes 6 (send-read c j)
     nobody : {c : ℕ} (x f w : ℕ) → s .status c ≡ askingUpdate x f w → alone P x (home P c) ≡ false → holders P x ≡ 0 → Comes 6 (send-update c)

@@ -1,4 +1,4 @@
--- The ledger of demand 3 (01, "What demand 3 speaks of"): the one that leaves values out.
+-- The ledger of demand 3 (RULES 12.3): the one that leaves values out.
 use Prim.Native.Nat.{ℕ}
 use mathlib.Core.List.{List}
 use Rattle.names.specs.Placement.{Placement}

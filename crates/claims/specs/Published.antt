@@ -1,6 +1,6 @@
--- The published algorithm with 01's sizes: 000's Figure 5 (automaton P_i) and Figure 7 (the daemon), over idealised lists, one state for
--- all cards. One move for each of the ten steps: what it does (`effect`). When it may be taken stands in Allowed, with which number it is
--- refused in Refusals. 01 merges some fragments and fixes the figures' choices; each move says which fragments it is.
+-- The published algorithm, 000 Figure 5 (automaton P_i) and Figure 7 (the daemon), over idealised lists, one state for all cards. One move for
+-- each of the ten steps: what it does (`effect`, RULES 5.1 to 5.10). When it may be taken stands in Allowed, with which number it is refused in
+-- Refusals. A step merges some fragments and fixes the figures' choices (RULES 1.2); each move says which fragments it is.
 use Prim.Native.Nat.{ℕ, suc}
 use mathlib.Core.Bool.{Bool, true, false, cond, _&&_, not}
 use mathlib.Core.List.{List, [], _∷_}
@@ -43,7 +43,7 @@ pub record Published : Type 0 where
   pub out : ℕ → List Letter  -- by card: buffer
   pub channel : ChannelState Letter  -- Figure 7: seqno, msgs, ppwait; and what BC and PP carry
 
--- "every copy starts at 0"; "every task is quiet, every queue empty, nothing held or in flight, no broadcast made or taken"
+-- at the start (RULES 10.3)
 abbrev pub begin : Published
 begin = record { requests = 0; status = λ c. quiet; table = λ i x. 0; out = λ i. []; channel = initialChannel }
 

@@ -1,5 +1,4 @@
--- A run of the published algorithm over a list of steps as they are given, and what it answers (01, "Run file and answer file": "result (a
--- byte, 0 taken, else the refusal) and value .., which is the value read for a taken report of a read and 0 otherwise").
+-- A run of the published algorithm over a list of steps as they are given, and what it answers (RULES 4.2, 4.3).
 use Prim.Native.Nat.{ℕ}
 use mathlib.Core.Bool.{cond}
 use mathlib.Core.List.{List, [], _∷_}
@@ -32,7 +31,7 @@ valueAt s (deliver i) = 0
 valueAt s (report c) = valueOf (s .status c)
 
 module _ (P : Placement) where
-  -- "Step: .. rising number, then 6 for the outcome": 10 to 15 first, then 20 to 35, then 6
+  -- rising number, then 6 for the outcome (RULES 8.5): 10 to 15 first, then 20 to 35, then 6
   abbrev pub decodedRefusal : Published → Decoded → ℕ
   decodedRefusal s (bad n) = n
   decodedRefusal s (good c) = commandRefusal P s c
@@ -40,7 +39,7 @@ module _ (P : Placement) where
   abbrev pub refusalOf : Published → RawStep → ℕ
   refusalOf s a = decodedRefusal s (decode P a)
 
-  -- "6 to 35: state unchanged, value 0"
+  -- a refused step leaves the state as it was and answers value 0 (RULES 8.1)
   abbrev pub afterDecoded : Published → Decoded → Published
   afterDecoded s (bad n) = s
   afterDecoded s (good c) = cond (eqb (commandRefusal P s c) 0) (effect P s c) s
@@ -58,6 +57,6 @@ module _ (P : Placement) where
   answersFrom s [] = []
   answersFrom s (a ∷ l) = answerDecoded s (decode P a) ∷ answersFrom (afterDecoded s (decode P a)) l
 
-  -- a run from a start
+  -- a run from a start (RULES 12.2)
   abbrev pub publishedRun : List RawStep → Published × List Answer
   publishedRun l = (finalFrom begin l, answersFrom begin l)

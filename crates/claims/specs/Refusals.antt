@@ -1,6 +1,6 @@
--- Refusals 20 to 35, then 6 for the outcome (01, "Who can cause which refusal"), of a decoded step. They are read off the requests taken,
--- what each task does, the outboxes and the channel; the messages may be of any type. The published algorithm and the ledger each give
--- their own. 0: the step is taken.
+-- Refusals 20 to 35, then 6 for the outcome (RULES 8.2, 8.5, 8.8), of a decoded step. They are read off the requests taken, what each task
+-- does, the outboxes and the channel; the messages may be of any type. The published algorithm and the ledger each give their own. 0: the step
+-- is taken.
 use Prim.Native.Nat.{ℕ}
 use mathlib.Core.Bool.{Bool, true, false, cond, _&&_, not}
 use mathlib.Core.List.{List, [], _∷_}
@@ -28,7 +28,7 @@ pub record Sight (M : Type 0) : Type 0 where
   pub out : ℕ → List M  -- by card: the outbox, oldest first
   pub channel : ChannelState M
 
--- 20 "request while not quiet"; 23 "a request after 65,535 taken"
+-- 20: the task is not quiet; 23: 65,535 requests were taken before (RULES 7.8)
 abbrev pub requestRefusal : ℕ → Stage → ℕ
 requestRefusal n quiet = otherwise 23 (ltb n 65535)
 requestRefusal n (asksRead x) = 20
@@ -36,7 +36,7 @@ requestRefusal n (asksUpdate x) = 20
 requestRefusal n waits = 20
 requestRefusal n done = 20
 
--- 21 "not done (10)"
+-- 21: the task is not done
 abbrev pub reportRefusal : Stage → ℕ
 reportRefusal quiet = 21
 reportRefusal (asksRead x) = 21
@@ -44,7 +44,7 @@ reportRefusal (asksUpdate x) = 21
 reportRefusal waits = 21
 reportRefusal done = 0
 
--- "an outbox has at most 16 messages": one more fits, else 6
+-- one message more fits in an outbox (RULES 7.1), else 6
 abbrev pub outboxRoom : {M : Type 0} → List M → ℕ
 outboxRoom l = otherwise 6 (ltb (length l) 16)
 
@@ -53,8 +53,8 @@ module _ (P : Placement) where
   abbrev pub alone : ℕ → ℕ → Bool
   alone x i = copy P x i && not (several (holders P x))
 
-  -- 21 "not asking (3, 4, 5; 4 wants a read, 5 an update)"; 22 "copies lie otherwise than steps 3 to 5 say". Card i is the task's home.
-  -- Step 3: "a read with a copy on the card ..; an update whose only copy is on the card".
+  -- 21: the task does not ask for this; 22: copies lie otherwise than the step asks. Card i is the task's home.
+  -- Step 3 (RULES 5.3): a read with a copy at home, an update while home is the only holder.
   abbrev pub performRefusal : ℕ → Stage → ℕ
   performRefusal i quiet = 21
   performRefusal i (asksRead x) = otherwise 22 (copy P x i)
@@ -62,7 +62,7 @@ module _ (P : Placement) where
   performRefusal i waits = 21
   performRefusal i done = 21
 
-  -- step 4: "no copy on the card; a read message to the chosen holder joins the card's outbox"
+  -- step 4 (RULES 5.4): a read with no copy at home, and one on the chosen card
   abbrev pub sendReadRefusal : {M : Type 0} → ℕ → ℕ → List M → Stage → ℕ
   sendReadRefusal i j l quiet = 21
   sendReadRefusal i j l (asksRead x) = cond (not (copy P x i) && copy P x j) (outboxRoom l) 22
@@ -70,8 +70,8 @@ module _ (P : Placement) where
   sendReadRefusal i j l waits = 21
   sendReadRefusal i j l done = 21
 
-  -- step 5: "the card isn't the only holder; an update message to all holders joins the outbox". 6 too for a message to nobody, which no
-  -- accepted placement has: its registers have holders.
+  -- step 5 (RULES 5.5): an update while home is not the only holder. 6 too for a message to nobody (8.8), which no accepted placement has: its
+  -- registers have holders.
   abbrev pub updateRoom : {M : Type 0} → ℕ → List M → ℕ
   updateRoom x l = cond (leb 1 (holders P x)) (outboxRoom l) 6
 
@@ -84,12 +84,12 @@ module _ (P : Placement) where
 
   -- `replies m i`: delivered on card i, message m puts a reply in the card's outbox
   module _ {M : Type 0} (mail : Mail M) (replies : M → ℕ → Bool) where
-    -- step 6: 30 "outbox empty", then the channel's own: 34, 6
+    -- step 6: 30, the outbox is empty; then the channel's own: 34, 6
     abbrev pub headRefusal : ChannelState M → List M → ℕ
     headRefusal w [] = 30
     headRefusal w (m ∷ r) = dispatchRefusal mail (P .cards) w m
 
-    -- step 9: 33 "inbox empty"; 6: the reply would be the 17th in the outbox
+    -- step 9: 33, the inbox is empty; 6: the reply would be the 17th in the outbox
     abbrev pub deliverRefusal : ℕ → List M → List M → ℕ
     deliverRefusal i l [] = 33
     deliverRefusal i l (m ∷ r) = cond (replies m i) (outboxRoom l) 0

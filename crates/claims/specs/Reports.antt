@@ -1,5 +1,5 @@
--- The ledger step by step (01, "What demand 3 speaks of"): which steps it takes, which of them opens an operation, and which reports it: "An
--- operation is reported by its task's next taken 10." SerialOrder's `ReportedAt` is the same by what the ledger writes down.
+-- The ledger step by step (RULES 12.3 to 12.5): which steps it takes, which of them opens an operation, and which reports it. SerialOrder's
+-- `ReportedAt` is the same by what the ledger writes down.
 use Prim.Native.Nat.{ℕ, suc, _<_}
 use mathlib.Core.Path.{_≡_}
 use mathlib.Core.Logic.{_↔_}
@@ -25,7 +25,7 @@ module _ (P : Placement) (steps : List RawStep) where
   LedgerNumbers answers = (n : ℕ) (a : RawStep) → nth steps n ≡ some a
       → (v : ℕ) × (nth answers n ≡ some (record { result = numberOf P (bookAt n) a; value = v }))
 
-  -- step m is taken and opens operation k: "numbered from 0 in the order taken"
+  -- step m is taken and opens operation k (RULES 12.4)
   pub record RequestedAt (k m : ℕ) : Type 0 where
     pub it : RawStep
     pub stands : nth steps m ≡ some it
@@ -40,7 +40,7 @@ module _ (P : Placement) (steps : List RawStep) where
     pub ten : decode P it ≡ good (report c)
     pub taken : numberOf P (bookAt n) it ≡ 0
 
-  -- "its task's next taken 10": step n is the first taken 10 of k's task after the step that opened k
+  -- step n is the first taken 10 of k's task after the step that opened k (RULES 12.5)
   pub record FirstReport (k n : ℕ) : Type 0 where
     pub request : ℕ
     pub requested : RequestedAt k request

@@ -1,6 +1,6 @@
--- Demand 3 (01, "What demand 3 speaks of"): "It is a single claim about the list, not one for each step." One serial order explains a list of
--- steps that begins at the start from an accepted placement. Operations, reports and applied updates are the ledger's; the values are those
--- that the store answered, and those in its table of copies at the end.
+-- Demand 3 (RULES 12.8), one claim about the whole list (12.9). One serial order explains a list of steps that begins at the start from an
+-- accepted placement. Operations, reports and applied updates are the ledger's; the values are those that the store answered, and those in its
+-- table of copies at the end.
 use Prim.Native.Nat.{ℕ, _<_}
 use mathlib.Core.Path.{_≡_}
 use mathlib.Core.Logic.{_⊎_}
@@ -30,7 +30,7 @@ module _ (P : Placement) (steps : List RawStep) where
   abbrev pub op : ℕ → Op
   op k = opAt (book .ops) k
 
-  -- "An operation is reported by its task's next taken 10": at step n (from 0) the ledger takes a 10 of a task that is done with k.
+  -- operation k is reported (RULES 12.5): at step n (from 0) the ledger takes a 10 of a task that is done with k
   pub record ReportedAt (k n : ℕ) : Type 0 where
     pub before : List RawStep
     pub it : RawStep
@@ -40,7 +40,7 @@ module _ (P : Placement) (steps : List RawStep) where
     pub task : ℕ
     pub taken : paper P (before ++ (it ∷ [])) ≡ report task k ∷ paper P before
 
-  -- the updates "applied on its card, in the order applied there"
+  -- the updates applied on card i, in the order applied there (RULES 12.6)
   abbrev pub appliedOn : ℕ → List ℕ
   appliedOn i = book .layer .applied i
 
@@ -48,29 +48,27 @@ module _ (P : Placement) (steps : List RawStep) where
   abbrev pub updates : ℕ → ℕ → Bool
   updates x k = (op k) .upd && eqb ((op k) .reg) x
 
-  -- "What updates make of zero is 0 with each one's function applied in turn."
+  -- what updates make of zero (RULES 12.7)
   abbrev pub madeOfZero : List ℕ → ℕ
   madeOfZero l = make (λ k. updated ((op k) .fn) ((op k) .arg)) 0 l
 
-  -- "A serial order is a list of operations"
+  -- a serial order is a list of operations (RULES 12.8, parts a to e)
   pub record SerialOrder (answers : List Answer) (table : ℕ → ℕ → ℕ) (order : List ℕ) : Type 0 where
-    -- It holds exactly the reported operations and the updates applied on some card, each once.
+    -- a: exactly the reported operations and the updates applied on some card, each once
     pub only : (k : ℕ) → In k order → ((n : ℕ) × ReportedAt k n) ⊎ ((i : ℕ) × (((op k) .upd ≡ true) × In k (appliedOn i)))
     pub reported : (k n : ℕ) → ReportedAt k n → In k order
     pub applied : (k i : ℕ) → In k (appliedOn i) → In k order
     pub once : Once order
-    -- It keeps each task's order of requests: "a task's order of requests is that of its operations' numbers".
+    -- b: a task's operations stand in the order of their numbers, which is that of its requests
     pub tasks : (j k : ℕ) → In j order → In k order → (op j) .task ≡ (op k) .task → j < k → Precedes j k order
-    -- Each reported read gave exactly what its register's earlier updates in the order make of zero: "What a reported read gave is the value
-    -- that the store answered at the 10 which reported it."
+    -- c: each reported read gave (12.5) exactly what its register's earlier updates in the order make of zero
     pub reads : (k n : ℕ) → ReportedAt k n → (op k) .upd ≡ false → (pre post : List ℕ) → order ≡ pre ++ k ∷ post
         → nth answers n ≡ some (record { result = 0; value = madeOfZero (filter (updates ((op k) .reg)) pre) })
-    -- Each copy shows a first part of its register's updates in the order: "A copy shows the updates of its register applied on its card, in
-    -- the order applied there"; "A first part may be empty or the whole".
+    -- d: each copy shows (12.6) a first part of its register's updates in the order; it may be empty or the whole
     pub copies : (x i : ℕ) → copy P x i ≡ true → (rest : List ℕ) × (filter (updates x) order ≡ filter (updates x) (appliedOn i) ++ rest)
-    -- And its value is exactly what they make of zero: "its value is the one in the store's table of copies".
+    -- e: and its value, the one in the store's table of copies, is exactly what they make of zero
     pub copy-values : (x i : ℕ) → copy P x i ≡ true → table i x ≡ madeOfZero (filter (updates x) (appliedOn i))
 
-  -- "one serial order explains the run": the claim
+  -- the claim: there is one
   abbrev pub Explained : List Answer → (ℕ → ℕ → ℕ) → Type 0
   Explained answers table = (order : List ℕ) × SerialOrder answers table order

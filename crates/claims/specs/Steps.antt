@@ -1,5 +1,5 @@
--- A step as it is given, a code and the eight bytes of its argument (01, "Run file and answer file"), and what it is: a command, or the
--- first of the refusals 10 to 15 ("Who writes the step"; "Step: .. rising number").
+-- A step as it is given, a code and the eight bytes of its argument (RULES 3.3), and what it is: a command, or the first of the refusals 10 to
+-- 15 (8.2, 8.5).
 use Prim.Native.Nat.{ℕ, _+_, _*_}
 use mathlib.Core.Bool.{Bool, true, false, cond, _&&_, _||_, not}
 use mathlib.Core.List.{List, [], _∷_}
@@ -28,28 +28,28 @@ abbrev pub zeros : List ℕ → List ℕ → Bool
 zeros a [] = true
 zeros a (k ∷ l) = eqb (getD a k 0) 0 && zeros a l
 
--- "byte 0 is the task for codes 1, 2, 3, 4, 5, 8, 10 and the card for 6, 7, 9"
+-- byte 0: the task, or the card
 unfoldable pub namesTask : ℕ → Bool
 namesTask n = among n (1 ∷ 2 ∷ 3 ∷ 4 ∷ 5 ∷ 8 ∷ 10 ∷ [])
 
 unfoldable pub namesCard : ℕ → Bool
 namesCard n = among n (6 ∷ 7 ∷ 9 ∷ [])
 
--- "byte 1 the register for 1 and 2, the chosen card for 4"
+-- byte 1: the register, or the chosen card
 unfoldable pub namesRegister : ℕ → Bool
 namesRegister n = among n (1 ∷ 2 ∷ [])
 
 unfoldable pub namesChosen : ℕ → Bool
 namesChosen n = eqb n 4
 
--- "byte 2 the function for 2; byte 3 zero; bytes 4 to 7 the operand for 2, low byte first"
+-- byte 2: the function; bytes 4 to 7: the operand, low byte first
 unfoldable pub namesFunction : ℕ → Bool
 namesFunction n = eqb n 2
 
 unfoldable pub operand : List ℕ → ℕ
 operand a = getD a 4 0 + 256 * (getD a 5 0 + 256 * (getD a 6 0 + 256 * getD a 7 0))
 
--- "Unnamed bytes are zero"
+-- bytes that the code does not name are zero, byte 3 always (RULES 3.4)
 unfoldable pub unnamedZero : ℕ → List ℕ → Bool
 unnamedZero n a =
     (namesRegister n || namesChosen n || eqb (getD a 1 0) 0)
@@ -75,7 +75,7 @@ commandOf n a =
     (report (getD a 0 0))))))))))
 
 module _ (P : Placement) where
-  -- 12 task, 13 register, 14 card, 15 function out of range ("all are numbered from 0"; "Functions of an update": 1 to 4)
+  -- 12 task, 13 register, 14 card absent (RULES 1.3); 15: the function is not 1 to 4 (2.5)
   unfoldable pub taskThere : RawStep → Bool
   taskThere s = not (namesTask (s .code)) || ltb (getD (s .argument) 0 0) (tasks P)
 
@@ -90,7 +90,7 @@ module _ (P : Placement) where
   unfoldable pub functionThere : RawStep → Bool
   functionThere s = not (namesFunction (s .code)) || (leb 1 (getD (s .argument) 2 0) && leb (getD (s .argument) 2 0) 4)
 
-  -- "10 unknown code. 11 an unnamed byte not zero. 12 task, 13 register, 14 card, 15 function out of range."
+  -- the lowest of 10 to 15 that applies
   unfoldable pub decode : RawStep → Decoded
   decode s =
       need (known (s .code)) 10

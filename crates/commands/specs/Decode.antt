@@ -1,5 +1,5 @@
--- Which step a code and the eight bytes of its argument are, among so many cards, registers and tasks: a command, or the first of the
--- refusals 10 to 15.
+-- Which step a code and the eight bytes of its argument are (RULES 3.3), among so many cards, registers and tasks: a command, or the first of
+-- the refusals 10 to 15 (8.2, 8.5).
 use Prim.Native.Nat.{ℕ, zero, suc, _+_, _*_}
 use mathlib.Core.Bool.{Bool, true, false, cond, _&&_}
 use mathlib.Core.List.{List}
@@ -32,7 +32,7 @@ chosenIn a = record { 0 = byteOf a 1 }
 abbrev pub functionIn : List ℕ → ℕ
 functionIn a = byteOf a 2
 
--- "bytes 4 to 7 the operand for 2, low byte first"
+-- bytes 4 to 7, low byte first
 unfoldable pub operandIn : List ℕ → ℕ
 operandIn a = byteOf a 4 + 256 * (byteOf a 5 + 256 * (byteOf a 6 + 256 * byteOf a 7))
 
@@ -44,7 +44,7 @@ restZero a = eqb (byteOf a 2) 0 && eqb (byteOf a 3) 0 && eqb (byteOf a 4) 0 && e
 unfoldable pub decided : ℕ → Command → Decoded
 decided n c = cond (eqb n 0) (Good c) (Bad n)
 
--- 11 "an unnamed byte not zero", 12 task, 13 register, 14 card, 15 "function out of range"
+-- 11: a byte that is not named is not zero; 12 task, 13 register, 14 card absent; 15: the function is not 1 to 4
 
 -- byte 0 alone is named, one of so many: 11, then the number of what it names
 unfoldable pub aloneNumber : List ℕ → ℕ → ℕ → ℕ
@@ -79,7 +79,7 @@ updateNumber a registers tasks =
     12)
     11
 
--- 10 "unknown code"
+-- 10: the code is not 1 to 10
 unfoldable pub decodeOf : ℕ → List ℕ → ℕ → ℕ → ℕ → Decoded
 decodeOf code a cards registers tasks =
     cond (eqb code 1) (decided (readNumber a registers tasks) (RequestRead (taskIn a) (registerIn a)))

@@ -1,1 +1,2 @@
 pub mod RunTallyLaws
+pub mod StepTallyLaws

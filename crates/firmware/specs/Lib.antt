@@ -1,1 +1,2 @@
 pub mod RunTally
+pub mod StepTally

@@ -1,5 +1,4 @@
--- A tally after a run: "A tally of steps taken and steps refused .. is brought up to date in place". A refused file or output has no steps:
--- `answeredOf` then counts none.
+-- A tally after a run (RULES 9.5). A refused file or output has no steps (9.4): `answeredOf` then counts none.
 use Prim.Native.Nat.{ℕ}
 use mathlib.Core.List.{List}
 use Rattle.tally.specs.declared.Tally.{Tally}

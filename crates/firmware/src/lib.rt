@@ -1,16 +1,18 @@
-// The store for firmware: functions that C and Rust call. The caller lends both memories of a store, whole; include/gondzselu.h declares what
-// is here.
+// The store for firmware: functions that C and Rust call (RULES 11.6). The caller lends both memories of a store, whole; include/gondzselu.h
+// declares what is here.
 ghost use mathlib.Core.Path.{_≡_};
 ghost use Rattle.names.specs.Placement.{placement, placementRefusal};
 ghost use Rattle.channel.specs.Layout.{madeOf, takenBy};
 ghost use Rattle.tables.specs.Layout.{requestsOf};
 ghost use Rattle.tables.specs.Start.{startRegisters, startChannel};
-ghost use Rattle.store.specs.Step.{stepped};
+ghost use Rattle.store.specs.Step.{stepped, advanced};
 ghost use Rattle.tables.specs.Panel.{valueShown, doingShown};
 ghost use Rattle.tables.specs.Doings.{doingKind, doingValue};
 ghost use Rattle.runfile.specs.RunFile.{fileRefusal};
 ghost use Rattle.runfile.specs.Run.{fileRegisters, fileChannel, answerRefusal, answerOutput};
 ghost use Rattle.firmware.specs.RunTally.{ranTally};
+ghost use Rattle.firmware.specs.StepTally.{countsOf};
+ghost use Rattle.tally.specs.Tally.{countedStep};
 use names::Card;
 use names::Register;
 use names::Task;
@@ -30,6 +32,14 @@ pub extern "C" fn gondzselu_channel_words() -> usize
     ensures { λ r. ⌜ r ≡ 4808 ⌝ }
 {
     4808
+}
+
+// The version of what is offered: major * 1,000,000 + minor * 1,000 + patch.
+#[no_mangle]
+pub extern "C" fn gondzselu_version() -> u32
+    ensures { λ r. ⌜ r ≡ 1000 ⌝ }
+{
+    1000
 }
 
 // ---- a whole run
@@ -104,6 +114,87 @@ pub extern "C" fn gondzselu_step(
     ensures result { λ r. ⌜ r ≡ stepped (now (registers .entry)) (now (channel .entry)) code (now (argument .entry)) .answer .result ⌝ }
 {
     let answer = store::step(registers, channel, code, *argument);
+    *value = answer.value;
+    answer.result
+}
+
+// A step's result, and the step as a tally counts it.
+struct Counts {
+    result: u8,
+    taken: u32,
+    refused: u32,
+}
+
+fn count_of(result: u8) -> Counts
+    ensures { λ r. ⌜ r ≡ countsOf result ⌝ }
+{
+    if result == 0 {
+        return Counts {
+            result: result,
+            taken: 1,
+            refused: 0,
+        };
+    }
+    Counts {
+        result: result,
+        taken: 0,
+        refused: 1,
+    }
+}
+
+fn step_counts(
+    registers: &mut [u32; 1544],
+    channel: &mut [u32; 4808],
+    code: u8,
+    argument: &[u8; 8],
+    value: &mut u32,
+) -> Counts
+    ensures registers { λ _. ⌜ now (registers .exit) ≡ stepped (now (registers .entry)) (now (channel .entry)) code (now (argument .entry)) .registers ⌝ }
+    ensures channel { λ _. ⌜ now (channel .exit) ≡ stepped (now (registers .entry)) (now (channel .entry)) code (now (argument .entry)) .channel ⌝ }
+    ensures value { λ _. ⌜ now (value .exit) ≡ stepped (now (registers .entry)) (now (channel .entry)) code (now (argument .entry)) .answer .value ⌝ }
+    ensures counts { λ r. ⌜ r ≡ countsOf (stepped (now (registers .entry)) (now (channel .entry)) code (now (argument .entry)) .answer .result) ⌝ }
+{
+    let result = gondzselu_step(registers, channel, code, argument, value);
+    count_of(result)
+}
+
+// `gondzselu_step`, and the step counted in a lent tally: every refusal counts, 6 too.
+#[no_mangle]
+pub extern "C" fn gondzselu_step_counted(
+    registers: &mut [u32; 1544],
+    channel: &mut [u32; 4808],
+    code: u8,
+    argument: &[u8; 8],
+    value: &mut u32,
+    tally: &mut Tally,
+) -> u8
+    ensures registers { λ _. ⌜ now (registers .exit) ≡ stepped (now (registers .entry)) (now (channel .entry)) code (now (argument .entry)) .registers ⌝ }
+    ensures channel { λ _. ⌜ now (channel .exit) ≡ stepped (now (registers .entry)) (now (channel .entry)) code (now (argument .entry)) .channel ⌝ }
+    ensures value { λ _. ⌜ now (value .exit) ≡ stepped (now (registers .entry)) (now (channel .entry)) code (now (argument .entry)) .answer .value ⌝ }
+    ensures tally { λ _. ⌜ now (tally .exit) ≡ countedStep (now (tally .entry)) (stepped (now (registers .entry)) (now (channel .entry)) code (now (argument .entry)) .answer .result) ⌝ }
+    ensures result { λ r. ⌜ r ≡ stepped (now (registers .entry)) (now (channel .entry)) code (now (argument .entry)) .answer .result ⌝ }
+{
+    let said = step_counts(registers, channel, code, argument, value);
+    tally::count(tally, said.taken, said.refused);
+    said.result
+}
+
+// The step without the check of the state, for a store that only this library has written since its start: on every well-sized pair of
+// memories the same as `gondzselu_step` (store, specs/StepResults, `unchecked`).
+#[no_mangle]
+pub extern "C" fn gondzselu_advance(
+    registers: &mut [u32; 1544],
+    channel: &mut [u32; 4808],
+    code: u8,
+    argument: &[u8; 8],
+    value: &mut u32,
+) -> u8
+    ensures registers { λ _. ⌜ now (registers .exit) ≡ advanced (now (registers .entry)) (now (channel .entry)) code (now (argument .entry)) .registers ⌝ }
+    ensures channel { λ _. ⌜ now (channel .exit) ≡ advanced (now (registers .entry)) (now (channel .entry)) code (now (argument .entry)) .channel ⌝ }
+    ensures value { λ _. ⌜ now (value .exit) ≡ advanced (now (registers .entry)) (now (channel .entry)) code (now (argument .entry)) .answer .value ⌝ }
+    ensures result { λ r. ⌜ r ≡ advanced (now (registers .entry)) (now (channel .entry)) code (now (argument .entry)) .answer .result ⌝ }
+{
+    let answer = store::advance(registers, channel, code, *argument);
     *value = answer.value;
     answer.result
 }

@@ -1,27 +1,25 @@
 // Files judged, and what the reader gives of them.
-use super::text::count;
 use super::text::fill;
-use super::text::tell;
+use console::count;
+use console::tell;
 use names::Register;
 use names::Task;
 
-fn sizes_said(sizes: runfile::Sizes) {
+fn sizes_said(page: &mut [u8; 65536], at: usize, sizes: runfile::Sizes) -> usize {
     tell(
+        page,
+        at,
         b"0, cards #, registers #, tasks #, steps #",
         &[sizes.cards, sizes.registers, sizes.tasks, sizes.steps],
-    );
+    )
 }
 
 // The number of a file, and the sizes of an accepted one.
-fn judge(file: &[u8]) {
+fn judge(page: &mut [u8; 65536], at: usize, file: &[u8]) -> usize {
     let verdict = runfile::judge(file);
     match verdict {
-        runfile::Judgement::Accepted(sizes) => {
-            sizes_said(sizes);
-        }
-        runfile::Judgement::Refused(number) => {
-            count(number as u32);
-        }
+        runfile::Judgement::Accepted(sizes) => sizes_said(page, at, sizes),
+        runfile::Judgement::Refused(number) => count(page, at, number as u32),
     }
 }
 
@@ -35,7 +33,7 @@ fn primary(file: &[u8]) -> u32 {
     card.0
 }
 
-fn placed(file: &[u8]) {
+fn placed(page: &mut [u8; 65536], at: usize, file: &[u8]) -> usize {
     let numbers = [
         home(file),
         runfile::copies(file, Register(0)),
@@ -43,42 +41,45 @@ fn placed(file: &[u8]) {
         primary(file),
     ];
     tell(
+        page,
+        at,
         b"#, copies of register 0: #, of register 1: #, primary of register 0: #",
         &numbers,
-    );
+    )
 }
 
-fn steps(file: &[u8]) {
+fn steps(page: &mut [u8; 65536], at: usize, file: &[u8]) -> usize {
     let numbers = [runfile::code(file, 0) as u32, runfile::code(file, 1) as u32];
     tell(
+        page,
+        at,
         b", code of step 0: #, of step 1: #, argument of step 0:",
         &numbers,
-    );
+    )
 }
 
-fn argument(file: &[u8]) {
+fn argument(page: &mut [u8; 65536], at: usize, file: &[u8]) -> usize {
     let argument = runfile::argument(file, 0);
-    super::text::show(&argument);
+    super::text::show(page, at, &argument)
 }
 
 // What the reader gives of a file, judged or not.
-fn read(file: &[u8]) {
-    placed(file);
-    steps(file);
-    argument(file);
+fn read(page: &mut [u8; 65536], at: usize, file: &[u8]) -> usize {
+    let a = placed(page, at, file);
+    let b = steps(page, a, file);
+    argument(page, b, file)
 }
 
-fn act(kind: u8, file: &[u8]) {
+fn act(page: &mut [u8; 65536], at: usize, kind: u8, file: &[u8]) -> usize {
     if kind == b'j' {
-        judge(file);
-        return;
+        return judge(page, at, file);
     }
-    read(file);
+    read(page, at, file)
 }
 
 // The room is what a file of 4,097 steps needs.
-pub(crate) fn show(kind: u8, bytes: &[u8]) {
+pub(crate) fn show(page: &mut [u8; 65536], at: usize, kind: u8, bytes: &[u8]) -> usize {
     let mut room = [0u8; 36881];
     let m = fill(&mut room, bytes);
-    act(kind, &room[..m]);
+    act(page, at, kind, &room[..m])
 }

@@ -11,35 +11,46 @@ mod answers;
 mod files;
 mod text;
 
-fn act(kind: u8, bytes: &[u8]) {
+fn act(page: &mut [u8; 65536], at: usize, kind: u8, bytes: &[u8]) -> usize {
     if kind == b'w' {
-        answers::write(bytes);
-        return;
+        return answers::write(page, at, bytes);
     }
-    files::show(kind, bytes);
+    files::show(page, at, kind, bytes)
 }
 
-fn sample(line: &[u8]) {
+fn sample(page: &mut [u8; 65536], at: usize, line: &[u8]) -> usize {
     if line.len() < 2 {
-        return;
+        return at;
     }
     let colon = text::end_of(line, 2, b':');
-    text::title(&line[2..colon]);
-    act(line[0], &line[colon..]);
+    let a = text::title(page, at, &line[2..colon]);
+    act(page, a, line[0], &line[colon..])
 }
 
-fn samples(input: &[u8]) {
-    let mut at: usize = 0;
-    while at < input.len() {
-        let end = text::end_of(input, at, b'\n');
-        sample(&input[at..end]);
-        text::say(b"\n");
-        at = end + 1;
+fn samples(page: &mut [u8; 65536], input: &[u8]) -> usize {
+    let mut next: usize = 0;
+    let mut from: usize = 0;
+    while from < input.len() {
+        let end = text::end_of(input, from, b'\n');
+        let a = sample(page, next, &input[from..end]);
+        next = console::put(page, a, b'\n');
+        from = end + 1;
     }
+    next
+}
+
+fn judge(input: &[u8]) {
+    let mut page = io::large_buffer();
+    let at = samples(&mut page, input);
+    console::finish(&page, at, b"judge");
 }
 
 fn main() {
     let mut input = io::large_buffer();
     let n = io::read_full(0, &mut input);
-    samples(&input[..n]);
+    if !console::read_whole(n, &input) {
+        console::unread(b"judge");
+        return;
+    }
+    judge(&input[..n]);
 }

@@ -2,53 +2,31 @@
 ghost use Prim.Native.Nat.{_≤_, _<_};
 ghost use lib.ListN.{length};
 ghost use Rattle.io.specs.Counts.{Counts};
+use console::hex;
+use console::put;
+use console::say;
 use names::placement::byte;
 use names::wide;
 
-pub(crate) fn say(text: &[u8]) {
-    io::write_all(1, text);
-}
-
-pub(crate) fn title(name: &[u8]) {
-    say(name);
-    say(b": ");
-}
-
-pub(crate) fn count(n: u32) {
-    io::print_decimal(1, n as u64);
-}
-
-fn nth(numbers: &[u32], k: usize) {
-    if k < numbers.len() {
-        count(numbers[k]);
-    }
-}
-
-// A text with the next number at each `#`.
-pub(crate) fn tell(text: &[u8], numbers: &[u32]) {
-    let mut at: usize = 0;
-    let mut k: usize = 0;
-    while at < text.len() {
-        let end = end_of(text, at, b'#');
-        say(&text[at..end]);
-        nth(numbers, k);
-        at = end + 1;
-        k += 1;
-    }
+pub(crate) fn title(page: &mut [u8; 65536], at: usize, name: &[u8]) -> usize {
+    let a = say(page, at, name);
+    say(page, a, b": ")
 }
 
 // A byte in hexadecimal, after a space.
-fn hex(n: u32) {
-    say(b" ");
-    io::print_hex(1, n as u64, 2);
+fn shown(page: &mut [u8; 65536], at: usize, n: u32) -> usize {
+    let a = put(page, at, b' ');
+    hex(page, a, n)
 }
 
-pub(crate) fn show(bytes: &[u8]) {
+pub(crate) fn show(page: &mut [u8; 65536], at: usize, bytes: &[u8]) -> usize {
+    let mut next = at;
     let mut i: usize = 0;
     while i < bytes.len() {
-        hex(byte(bytes, i));
+        next = shown(page, next, byte(bytes, i));
         i += 1;
     }
+    next
 }
 
 // Where a mark is next, or the end.

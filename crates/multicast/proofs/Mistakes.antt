@@ -1,4 +1,4 @@
--- The promise has teeth: histories that the tempting mistakes lead to (01, "Tempting here"), of which no rank at all keeps the promise.
+-- The promise has teeth: histories that the tempting mistakes lead to (docs/CLAIMS, Not hollow), of which no rank at all keeps the promise.
 -- Newest first; a message is a number.
 use mathlib.Core.Path.{refl}
 use mathlib.Core.Bool.{Bool, true, _||_}

@@ -1,4 +1,4 @@
--- What a context multicast channel promises of a run (000 §4, in a form that fits unfinished runs).
+-- What a context multicast channel promises of a run (000 §4, in a form that fits unfinished runs; RULES 6.6).
 -- A run is a history of events, newest first. `view` says what the channel sees of an event.
 use mathlib.Core.Path.{_≡_}
 use mathlib.Core.Bool.{Bool, true}

@@ -1,5 +1,5 @@
--- What K9, K10 and the run of two held messages leave held, read from the table's own files: "tagged 1. Step 8 holds it at card 1"; "The
--- reply is held at card 0"; and both in order of arrival.
+-- What K9, K10 and the run of two held messages (RULES 13) leave held, read from the table's own files: K9's message, tagged 1, at card 1; K10's
+-- reply at card 0; and both in order of arrival (6.5).
 use Prim.Native.Nat.{ℕ}
 use mathlib.Core.Path.{_≡_}
 use mathlib.Core.List.{List, [], _∷_, map}

@@ -1,4 +1,4 @@
--- The named runs K1 to K10 (01, "Named runs") and one more: the bytes of each file, and of its answer.
+-- The named runs K1 to K10 (RULES 13) and one more: the bytes of each file, and of its answer.
 -- A longer file has a line for its sizes, its homes, copies and primaries, its codes, and each argument; its answer one for N, the results
 -- and each value.
 use Prim.Native.Nat.{ℕ}
@@ -11,12 +11,11 @@ pub record NamedRun : Type 0 where
   pub file : List ℕ
   pub answer : List ℕ
 
--- "K1 hex 01 01 01 00 00 00 01 00 answers 00 00."
+-- K1, the smallest file: no steps
 abbrev pub k1 : NamedRun
 k1 = record { file = 1 ∷ 1 ∷ 1 ∷ 0 ∷ 0 ∷ 0 ∷ 1 ∷ 0 ∷ []; answer = 0 ∷ 0 ∷ [] }
 
--- "K2 hex 01 01 01 06 00, 00, 01, 00, codes 02 03 0A 01 03 0A, arguments 00 00 02 00 05 00 00 00 and 40 zero bytes. Answer: 06 00, six
--- 00, twenty 00, 05 00 00 00."
+-- K2 (RULES 3.6, 4.8): add 5, then read
 abbrev pub k2 : NamedRun
 k2 = record {
   file =
@@ -42,26 +41,26 @@ k2 = record {
       [];
 }
 
--- "K3 four bytes: 1."
+-- K3, four bytes: refused with 1
 abbrev pub k3 : NamedRun
 k3 = record { file = 1 ∷ 1 ∷ 1 ∷ 0 ∷ []; answer = 1 ∷ [] }
 
--- "K4 nine cards: 3; eight pass."
+-- K4, nine cards: refused with 3; eight are accepted
 abbrev pub k4 : NamedRun
 k4 = record { file = 9 ∷ 1 ∷ 1 ∷ 0 ∷ 0 ∷ 0 ∷ 1 ∷ 0 ∷ []; answer = 3 ∷ [] }
 
 abbrev pub k4-eight : NamedRun
 k4-eight = record { file = 8 ∷ 1 ∷ 1 ∷ 0 ∷ 0 ∷ 0 ∷ 1 ∷ 0 ∷ []; answer = 0 ∷ 0 ∷ [] }
 
--- "K5 copies 0: 4."
+-- K5, copies 0: refused with 4
 abbrev pub k5 : NamedRun
 k5 = record { file = 1 ∷ 1 ∷ 1 ∷ 0 ∷ 0 ∷ 0 ∷ 0 ∷ 0 ∷ []; answer = 4 ∷ [] }
 
--- "K6 one card, copies 2: 4."
+-- K6, one card and copies 2, which is card 1: refused with 4
 abbrev pub k6 : NamedRun
 k6 = record { file = 1 ∷ 1 ∷ 1 ∷ 0 ∷ 0 ∷ 0 ∷ 2 ∷ 0 ∷ []; answer = 4 ∷ [] }
 
--- "K7 a busy task asks for an absent register: 13; for a present one: 20."
+-- K7, a task that asks requests an absent register: 13; a present one: 20
 abbrev pub k7 : NamedRun
 k7 = record {
   file =
@@ -81,7 +80,7 @@ k7 = record {
       [];
 }
 
--- "K8 the only copy is at home: code 5 gives 22, code 3 is taken."
+-- K8, the only copy is at home: code 5 gives 22, code 3 is taken
 abbrev pub k8 : NamedRun
 k8 = record {
   file =
@@ -101,9 +100,7 @@ k8 = record {
       [];
 }
 
--- "K9 three cards, a task on each. Register 0 everywhere, register 1 on card 1. Task 2 sets register 0 to 7 (steps 2, 5, 6); card 0 takes
--- and delivers it; task 0 reads 7, then sends "set register 1 to 9", tagged 1. Step 8 holds it at card 1; step 9 there gives 33. After
--- card 1 takes broadcast 1, two deliveries set 7, then 9."
+-- K9 (RULES 3.5, 4.7): three cards, a task on each; register 0 on all of them, register 1 on card 1
 abbrev pub k9 : NamedRun
 k9 = record {
   file =
@@ -149,8 +146,8 @@ k9 = record {
       [];
 }
 
--- "K10 same cards. Card 1 delivers broadcast 1, then answers a read from task 0. The reply is held at card 0 until broadcast 1 is taken
--- there."
+-- K10, the cards of K9: card 1 delivers broadcast 1, then replies to a read of task 0; the reply is held at card 0 until card 0 takes
+-- broadcast 1
 abbrev pub k10 : NamedRun
 k10 = record {
   file =
@@ -203,7 +200,7 @@ k10 = record {
 }
 
 -- Two messages of one tag, held at card 1 and released in the order in which they reached it, which is neither that of their sending nor
--- that of their tasks: "in order of arrival" (01, step 7). Same cards as K9.
+-- that of their tasks: in order of arrival (RULES 6.5). The cards of K9.
 abbrev pub two-held : NamedRun
 two-held = record {
   file =
@@ -228,8 +225,8 @@ two-held = record {
       0 ∷ 0 ∷ 0 ∷ 0 ∷ 0 ∷ 0 ∷ 0 ∷ 0 ∷  -- task 0's message reaches card 1, and is held
       1 ∷ 0 ∷ 0 ∷ 0 ∷ 0 ∷ 0 ∷ 0 ∷ 0 ∷  -- card 1 takes broadcast 1, which releases both
       1 ∷ 0 ∷ 0 ∷ 0 ∷ 0 ∷ 0 ∷ 0 ∷ 0 ∷  -- card 1 delivers it
-      1 ∷ 0 ∷ 0 ∷ 0 ∷ 0 ∷ 0 ∷ 0 ∷ 0 ∷  -- card 1 delivers "set register 1 to 4"
-      1 ∷ 0 ∷ 0 ∷ 0 ∷ 0 ∷ 0 ∷ 0 ∷ 0 ∷  -- card 1 delivers "set register 1 to 9"
+      1 ∷ 0 ∷ 0 ∷ 0 ∷ 0 ∷ 0 ∷ 0 ∷ 0 ∷  -- card 1 delivers task 2's message: 4
+      1 ∷ 0 ∷ 0 ∷ 0 ∷ 0 ∷ 0 ∷ 0 ∷ 0 ∷  -- card 1 delivers task 0's message: 9
       1 ∷ 1 ∷ 0 ∷ 0 ∷ 0 ∷ 0 ∷ 0 ∷ 0 ∷  -- task 1 asks to read register 1
       1 ∷ 0 ∷ 0 ∷ 0 ∷ 0 ∷ 0 ∷ 0 ∷ 0 ∷  -- task 1 performs it
       1 ∷ 0 ∷ 0 ∷ 0 ∷ 0 ∷ 0 ∷ 0 ∷ 0 ∷  -- task 1 reports 9
@@ -267,6 +264,6 @@ two-held = record {
 abbrev pub table : List NamedRun
 table = k1 ∷ k2 ∷ k3 ∷ k4 ∷ k4-eight ∷ k5 ∷ k6 ∷ k7 ∷ k8 ∷ k9 ∷ k10 ∷ two-held ∷ []
 
--- "K1 to K10 are proved, together in one table"
+-- they are proved together, in one table (RULES 13.1)
 abbrev pub NamedRuns : Type 0
 NamedRuns = (r : NamedRun) → In r table → answerOf (r .file) ≡ r .answer

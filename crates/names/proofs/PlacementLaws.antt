@@ -56,7 +56,7 @@ only-below h n = (λ b i m. go b i m (decLt i n), λ f. bits-clear h n h (let p 
 
 -- ---- what the tests ask
 
--- "Cards 1 to 8, registers 1 to 32, tasks 1 to 16"
+-- the sizes of RULES 1.3
 abbrev pub InRange : ℕ → ℕ → ℕ → Type 0
 InRange cards registers tasks = (1 ≤ cards) × (cards ≤ 8) × (1 ≤ registers) × (registers ≤ 32) × (1 ≤ tasks) × (tasks ≤ 16)
 
@@ -141,7 +141,7 @@ module _ (p : Placement) where
             (each-of (registers p) R (λ x h. register-lies (p .cards) (holders p x) (primary p x) .1 (l .1 x h))),
       )
 
--- the number of a placement: "3, then 4"
+-- the number of a placement: 3, then 4 (RULES 8.4)
 pub data PlacementVerdict (p : Placement) : ℕ → Type 0 where
   size-out-of-range : ¬ Sized p → PlacementVerdict p 3
   misplaced : Sized p → ¬ Placed p → PlacementVerdict p 4

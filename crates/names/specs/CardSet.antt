@@ -1,4 +1,4 @@
--- A set of cards (01, "Run file": "copies (a byte, bit i set where card i holds one; bit 0 is worth 1)").
+-- A set of cards (RULES 1.5).
 use Prim.Native.Nat.{ℕ, _*_, _/_, _%_, _^_}
 use mathlib.Core.Bool.{Bool, not}
 use lib.Dec.{eqb}
@@ -16,11 +16,11 @@ memberOf set i = eqb (bitOf set i) 1
 unfoldable pub sizeOf : ℕ → ℕ
 sizeOf set = total (bitOf set) 8
 
--- "One destination"
+-- exactly one card, as the destinations of a single message are (RULES 6.1)
 unfoldable pub single : ℕ → Bool
 single set = eqb (sizeOf set) 1
 
--- "More than one destination", of a set that is not empty
+-- more cards than one, of a set that is not empty, as the destinations of a broadcast are (RULES 6.1)
 unfoldable pub several : ℕ → Bool
 several set = not (single set)
 

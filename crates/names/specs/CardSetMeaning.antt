@@ -1,4 +1,4 @@
--- Which number is which set of cards, computed apart from the definitions: "bit i set where card i holds one; bit 0 is worth 1".
+-- Which number is which set of cards (RULES 1.5), computed apart from the definitions.
 use mathlib.Core.Path.{_≡_}
 use mathlib.Core.Bool.{true, false}
 use Rattle.names.specs.CardSet.{memberOf, sizeOf, single, several, soleOf}

@@ -1,5 +1,5 @@
--- A letter, that is a message with its sender and its destinations, in a block of eight words: kind, task, register, function, value,
--- sender, destinations, tag. Block b starts at word b * 8 of the memory it lies in.
+-- A letter, that is a message (RULES 1.7) with its sender and its destinations, in a block of eight words: kind, task, register, function,
+-- value, sender, destinations, tag. Block b starts at word b * 8 of the memory it lies in. Kinds 1 to 4: the four messages.
 use Prim.Native.Nat.{ℕ, zero, suc, _+_, _*_, _/_}
 use mathlib.Core.Bool.{Bool, true, false, cond, _&&_}
 use mathlib.Core.List.{List}
@@ -75,7 +75,7 @@ letterIn ws b = cond (reaches ws b) (letterAt ws b) (letterOf 0 0 0 0 0 0 0)
 unfoldable pub storedIn : List ℕ → ℕ → Letter → ℕ → List ℕ
 storedIn ws b l t = cond (reaches ws b) (stored ws b l t) ws
 
--- "an unknown function": functions are 1 to 4
+-- the function of an update is one of 1 to 4 (RULES 2.5)
 unfoldable pub known : Body → Bool
 known ReadDo = true
 known (UpdateDo f v) = leb 1 f && leb f 4

@@ -1,5 +1,5 @@
--- A placement: which cards there are, where each task lives and where each register's copies lie (01, "Words and sizes", "Run file"), and
--- when it is refused ("A start made from a placement without a file meets 3, then 4"). A run file's placement is judged by this too.
+-- A placement: which cards there are, where each task lives and where each register's copies lie (RULES 1.7, 10.1), and when it is refused
+-- (8.4, 10.2). A run file's placement is judged by this too.
 use Prim.Native.Nat.{ℕ, _^_}
 use mathlib.Core.Bool.{Bool, cond, _&&_}
 use mathlib.Core.List.{List}
@@ -14,7 +14,7 @@ pub record Placement : Type 0 where
   pub copies : List ℕ  -- by register: the set of cards that hold a copy
   pub primaries : List ℕ  -- by register: its primary card
 
--- 3 "a size out of range": "Cards 1 to 8, registers 1 to 32, tasks 1 to 16"
+-- 3: a number of cards, registers or tasks out of range (RULES 1.3)
 unfoldable pub sizesInRange : ℕ → ℕ → ℕ → Bool
 sizesInRange cards registers tasks = leb 1 cards && leb cards 8 && leb 1 registers && leb registers 32 && leb 1 tasks && leb tasks 16
 
@@ -35,7 +35,7 @@ homesPlaced cards homes = each (length homes) (λ c. homePlaced cards (getD home
 unfoldable pub registersPlaced : ℕ → List ℕ → List ℕ → Bool
 registersPlaced cards copies primaries = each (length copies) (λ x. registerPlaced cards (getD copies x 0) (getD primaries x 0))
 
--- "3, then 4"
+-- 3, then 4 (RULES 8.4)
 abbrev pub placementNumber : Bool → Bool → ℕ
 placementNumber sized placed = cond sized (cond placed 0 4) 3
 
@@ -60,11 +60,11 @@ module _ (p : Placement) where
   abbrev pub copy : ℕ → ℕ → Bool
   copy x i = ltb i (p .cards) && memberOf (holders x) i
 
-  -- 3. Parallel tables of unequal length count as a size out of range.
+  -- 3. Tables of unequal length count as a size out of range (RULES 10.2).
   unfoldable pub sized : Bool
   sized = sizesInRange (p .cards) registers tasks && eqb (length (p .primaries)) registers
 
-  -- 4 "no copy, a copy or home on an absent card, or a primary without a copy"
+  -- 4: a register has no copy; a copy or a home is on an absent card; a primary has no copy (RULES 8.2)
   unfoldable pub placed : Bool
   placed = homesPlaced (p .cards) (p .homes) && registersPlaced (p .cards) (p .copies) (p .primaries)
 

@@ -1,4 +1,4 @@
--- A queue of letters, "first in, first out", as a ring of n blocks: word h has the place of its head, word c its count.
+-- A queue of letters, first in, first out (RULES 5.11), as a ring of n blocks: word h has the place of its head, word c its count.
 use Prim.Native.Nat.{ℕ, _+_, _-_, _%_}
 use mathlib.Core.Bool.{cond}
 use mathlib.Core.List.{List}

@@ -1,4 +1,4 @@
--- A step as it is given (01, "Run file": "code (a byte) and argument (eight bytes)"), before it is judged.
+-- A step as it is given, a code and the eight bytes of its argument (RULES 3.1, 3.3), before it is judged.
 use Prim.Native.Nat.{ℕ}
 use mathlib.Core.List.{List}
 

@@ -1,20 +1,20 @@
--- What an update makes of a value, stated apart from `updated`: a function that were wrong in code and definition alike would fail here.
--- `updated f w v` is function f with operand w on value v.
+-- What an update makes of a value (RULES 2.1 to 2.4), stated apart from `updated`: a function that were wrong in code and definition alike
+-- would fail here. `updated f w v` is function f with operand w on value v.
 use Prim.Native.Nat.{ℕ, _+_, _/_, _%_, _^_, _≤_, _<_}
 use mathlib.Core.Path.{_≡_}
 use mathlib.Core.Logic.{_↔_, _⊎_}
 use Rattle.names.specs.Update.{updated}
 
 pub record UpdateMeaning (v w : ℕ) : Type 0 where
-  -- "1 gives w"
+  -- function 1 (RULES 2.1)
   pub operand : updated 1 w v ≡ w
-  -- "2 gives v + w modulo 4,294,967,296": a word, and v + w or that much less
+  -- function 2 (RULES 2.2): a word, and v + w or 2^32 less
   pub sum-word : updated 2 w v < 4294967296
   pub sum : (updated 2 w v ≡ v + w) ⊎ (updated 2 w v + 4294967296 ≡ v + w)
-  -- "3 gives the larger": at least both, and one of them
+  -- function 3 (RULES 2.3): at least both, and one of them
   pub larger-most : (v ≤ updated 3 w v) × (w ≤ updated 3 w v)
   pub larger-one : (updated 3 w v ≡ v) ⊎ (updated 3 w v ≡ w)
-  -- "4 gives the bitwise or": a bit is set exactly if it is set in one of the two
+  -- function 4 (RULES 2.4): a bit is set exactly if it is set in one of the two
   pub or-bits : (i : ℕ) → (updated 4 w v / 2 ^ i % 2 ≡ 1) ↔ ((v / 2 ^ i % 2 ≡ 1) ⊎ (w / 2 ^ i % 2 ≡ 1))
 
 -- of words

@@ -1,5 +1,5 @@
 // The vocabulary that the channel, the registers and the run files share: cards, tasks, registers and broadcast numbers as types of
-// their own, messages between cards, sets of cards, and what the functions of an update do.
+// their own (RULES 1.6), messages between cards, sets of cards, and what the functions of an update do.
 ghost use mathlib.Core.Path.{_≡_};
 ghost use Prim.Native.Nat.{_<_};
 ghost use Rattle.names.specs.CardSet.{memberOf, sizeOf, several, single, soleOf};

@@ -1,5 +1,5 @@
--- Sequential consistency has teeth: histories of the register layer that the five tempting mistakes lead to (01, "Tempting here"), which no
--- serial order at all explains (demand 3); and one whose only fault is the value in a reply.
+-- Sequential consistency has teeth: histories of the register layer that the five tempting mistakes lead to (docs/CLAIMS, Not hollow), which
+-- no serial order at all explains (demand 3); and one whose only fault is the value in a reply.
 use Prim.Native.Nat.{suc, zero, ℕ, _<_, _≤_}
 use borrow.Author.Tests.{eqb-true}
 use lib.Dec.{eqb, leb}

@@ -1,4 +1,4 @@
--- The register layer (000 §5.1, Figure 5; 01, steps 1 to 5, 9 and 10, and of step 6 that the head leaves the outbox), with its values: the
+-- The register layer (000 §5.1, Figure 5; RULES 5.1 to 5.5, 5.9, 5.10, and of 5.6 that the head leaves the outbox), with its values: the
 -- table of copies, the value that a reply brings, the value that a task is done with, the value that a report gives.
 -- Of the channel it sees only the events `dispatch` and `deliver` (Figure 5's mcast and receive).
 --

@@ -21,7 +21,7 @@ use Rattle.runfile.proofs.Joined.{joined-pieces}
 -- ---- the tests of a file
 
 module _ (s : List ℕ) where
-  -- "Cards 1 to 8, registers 1 to 32, tasks 1 to 16, steps in a file 0 to 4,096"
+  -- the sizes of RULES 1.3
   abbrev pub SizesInRange : Type 0
   SizesInRange = InRange (cardsIn s) (registersIn s) (tasksIn s) × (stepsIn s ≤ 4096)
 
@@ -77,7 +77,7 @@ module _ (s : List ℕ) where
 
 -- ---- which file meets which refusal
 
--- the number of a file: "1 (under 5 bytes), 3, 1, 2, 4"
+-- the number of a file: 1 for fewer than 5 bytes, 3, 1, 2, 4 (RULES 8.3)
 pub data FileVerdict (s : List ℕ) : ℕ → Type 0 where
   under-five : length s < 5 → FileVerdict s 1
   size-out-of-range : 5 ≤ length s → ¬ SizesInRange s → FileVerdict s 3

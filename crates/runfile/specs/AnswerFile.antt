@@ -1,4 +1,4 @@
--- The answer file (01, "Run file and answer file"): its bytes, and how it is written into a lent output step by step.
+-- The answer file (RULES 4.1): its bytes, and how it is written into a lent output step by step (4.4, 4.9).
 use Prim.Native.Nat.{ℕ, _+_, _*_, _%_, _/_}
 use mathlib.Core.Bool.{cond}
 use mathlib.Core.List.{List, [], _∷_, _++_, map}
@@ -14,11 +14,11 @@ use Rattle.runfile.specs.RunFile.{twoBytes, joined}
 abbrev pub fourBytes : ℕ → List ℕ
 fourBytes v = v % 256 ∷ v / 256 % 256 ∷ v / 65536 % 256 ∷ v / 16777216 % 256 ∷ []
 
--- "The answer file is N (two bytes), then two parallel arrays over steps: result (a byte, ..) and value (four bytes, low first)"
+-- N, then the results, a byte each, then the values, four bytes each
 unfoldable pub answerBytes : List Answer → List ℕ
 answerBytes answers = twoBytes (length answers) ++ map (λ a. a .result) answers ++ joined (map (λ a. fourBytes (a .value)) answers)
 
--- an output that has the answer file in it: "bytes past 2 + 5N are untouched"
+-- an output that has the answer file in it: bytes from 2 + 5N on stay as they were (RULES 4.4)
 unfoldable pub answered : List Answer → List ℕ → List ℕ
 answered answers out = answerBytes answers ++ drop (2 + 5 * length answers) out
 
@@ -32,7 +32,7 @@ wordStored at v out = sets out at (fourBytes v)
 unfoldable pub headed : ℕ → List ℕ → List ℕ
 headed n out = sets out 0 (twoBytes n)
 
--- "The value array starts at byte 2 + N of the lent buffer and is written there"
+-- where the value array starts in the lent output, and is written
 abbrev pub valuesAt : ℕ → ℕ
 valuesAt n = 2 + n
 
@@ -64,7 +64,7 @@ answerAt results values k = record { result = getD results k 0; value = getD val
 abbrev pub answersOf : List ℕ → List ℕ → List Answer
 answersOf results values = listing (answerAt results values) (length results)
 
--- 3 for more than 4,096 steps or tables of unequal length, then 5 "output shorter than 2 + 5N"
+-- 3 for more than 4,096 steps or tables of unequal length, then 5 for an output shorter than 2 + 5N (RULES 4.9)
 unfoldable pub writeRefusal : List ℕ → List ℕ → List ℕ → ℕ
 writeRefusal results values out =
     cond (ltb 4096 (length results)) 3

@@ -1,4 +1,5 @@
--- What the answer file's definitions mean, stated apart from them: a definition that were wrong in code and claim alike would fail here.
+-- What the answer file's definitions mean (RULES 4.1, 4.9), stated apart from them: a definition that were wrong in code and claim alike would
+-- fail here.
 use Prim.Native.Nat.{ℕ, _+_, _*_, _≤_, _<_}
 use mathlib.Core.Path.{_≡_}
 use mathlib.Core.Logic.{_↔_, _⊎_, _≢_}

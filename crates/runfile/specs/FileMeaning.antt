@@ -1,4 +1,4 @@
--- What a run file's first five bytes mean, stated apart from the definitions that read them.
+-- What a run file's first five bytes mean (RULES 3.1), stated apart from the definitions that read them.
 use Prim.Native.Nat.{ℕ, _+_, _*_}
 use mathlib.Core.Path.{_≡_}
 use mathlib.Core.List.{List, [], _∷_}

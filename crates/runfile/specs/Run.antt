@@ -1,4 +1,4 @@
--- A whole run: from the bytes of a run file to those of its answer file (01, "Run file and answer file").
+-- A whole run: from the bytes of a run file (RULES 3) to those of its answer file (4).
 use Prim.Native.Nat.{ℕ, _+_, _*_}
 use mathlib.Core.Bool.{Bool, cond, not}
 use mathlib.Core.List.{List, [], _∷_}
@@ -14,7 +14,7 @@ use Rattle.runfile.specs.declared.Answered.{Answered}
 use Rattle.runfile.specs.RunFile.{stepsIn, placementIn, runFileIn, fileRefusal}
 use Rattle.runfile.specs.AnswerFile.{answerBytes, answered}
 
--- a start from an accepted file is the start from its placement; a refused file begins no state
+-- a start from an accepted file is the start from its placement; a refused file begins no state (RULES 10.4, 8.1)
 unfoldable pub fileRegisters : List ℕ → List ℕ → List ℕ
 fileRegisters file rs = cond (eqb (fileRefusal file) 0) (startRegisters (placementIn file) rs) rs
 
@@ -25,30 +25,30 @@ fileChannel file cs = cond (eqb (fileRefusal file) 0) (startChannel (placementIn
 unfoldable pub answersIn : List ℕ → List Answer
 answersIn file = answersFrom (placementIn file) begin (runFileIn file .steps)
 
--- "The program reads a run file from standard input and writes its answer file; for a refused file it writes the refusal as one byte."
+-- what a program writes: the answer file, or the refusal as one byte (RULES 4.6)
 unfoldable pub answerOf : List ℕ → List ℕ
 answerOf file = cond (eqb (fileRefusal file) 0) (answerBytes (answersIn file)) (fileRefusal file ∷ [])
 
--- "Order: file 1 (under 5 bytes), 3, 1, 2, 4, then 5": 5 "output shorter than 2 + 5N"
+-- the file's refusal, then 5 for an output shorter than 2 + 5N (RULES 8.3)
 unfoldable pub answerRefusal : List ℕ → List ℕ → ℕ
 answerRefusal file out = cond (eqb (fileRefusal file) 0) (cond (ltb (length out) (2 + 5 * stepsIn file)) 5 0) (fileRefusal file)
 
--- the lent output: "bytes past 2 + 5N are untouched", and all of it where the file or the output is refused
+-- the lent output: bytes from 2 + 5N on stay as they were (RULES 4.4), and all of it where the file or the output is refused (4.5)
 unfoldable pub answerOutput : List ℕ → List ℕ → List ℕ
 answerOutput file out = cond (eqb (answerRefusal file out) 0) (answered (answersIn file) out) out
 
--- "Every refusal of a step counts, 6 too."
+-- every refusal of a step counts, 6 too (RULES 9.3)
 unfoldable pub isRefused : ℕ → Bool
 isRefused result = not (isTaken result)
 
--- "steps taken and steps refused"
+-- the steps taken, the steps refused
 abbrev pub takenOf : List Answer → ℕ
 takenOf answers = length (filter (λ a. isTaken (a .result)) answers)
 
 abbrev pub refusedOf : List Answer → ℕ
 refusedOf answers = length (filter (λ a. isRefused (a .result)) answers)
 
--- what is said of a whole run: 0 and the counts of its steps, or the refusal and no steps
+-- what is said of a whole run: 0 and the counts of its steps, or the refusal and no steps (RULES 9.4)
 unfoldable pub answeredOf : List ℕ → List ℕ → Answered
 answeredOf file out =
     cond (eqb (answerRefusal file out) 0)

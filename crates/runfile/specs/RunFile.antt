@@ -1,4 +1,4 @@
--- The run file (01, "Run file and answer file"): where each part of it lies, what it holds, and when it is refused.
+-- The run file: where each part of it lies (RULES 3.1, 3.2), what it holds, and when it is refused (8.2, 8.3).
 use Prim.Native.Nat.{ℕ, _+_, _*_, _%_, _/_}
 use mathlib.Core.Bool.{Bool, cond, _&&_}
 use mathlib.Core.List.{List, [], _∷_, _++_, map}
@@ -14,7 +14,7 @@ use Rattle.runfile.specs.declared.Judgement.the-variants.{Accepted, Refu
 
 -- ---- what a file holds
 
--- "Sizes first: cards, registers, tasks (a byte each), steps N (two bytes, low byte first)."
+-- the sizes first: cards, registers, tasks, a byte each, and N in two bytes, low byte first
 abbrev pub cardsIn : List ℕ → ℕ
 cardsIn s = getD s 0 0
 
@@ -27,7 +27,7 @@ tasksIn s = getD s 2 0
 unfoldable pub stepsIn : List ℕ → ℕ
 stepsIn s = getD s 3 0 + 256 * getD s 4 0
 
--- "Then the home card of each task (a byte each). Then two parallel arrays over registers: copies .. and primary (a byte)."
+-- then the home of each task; then two parallel arrays over registers, copies and primaries
 abbrev pub homesAt : ℕ
 homesAt = 5
 
@@ -37,14 +37,14 @@ copiesAt s = homesAt + tasksIn s
 unfoldable pub primariesAt : List ℕ → ℕ
 primariesAt s = copiesAt s + registersIn s
 
--- "Then two parallel arrays over steps: code (a byte) and argument (eight bytes)."
+-- then two parallel arrays over steps, codes and arguments
 unfoldable pub codesAt : List ℕ → ℕ
 codesAt s = primariesAt s + registersIn s
 
 unfoldable pub argumentsAt : List ℕ → ℕ
 argumentsAt s = codesAt s + stepsIn s
 
--- "Length: 5 + tasks + 2 × registers + 9 × N."
+-- the length that the sizes ask for (RULES 3.2)
 unfoldable pub fileLength : List ℕ → ℕ
 fileLength s = 5 + tasksIn s + 2 * registersIn s + 9 * stepsIn s
 
@@ -74,12 +74,11 @@ sizesIn s = record { cards = cardsIn s; registers = registersIn s; tasks = tasks
 
 -- ---- which file is accepted
 
--- 3 "a size out of range": "Cards 1 to 8, registers 1 to 32, tasks 1 to 16, steps in a file 0 to 4,096"
+-- 3: a size is out of range (RULES 1.3)
 unfoldable pub sizesSound : List ℕ → Bool
 sizesSound s = sizesInRange (cardsIn s) (registersIn s) (tasksIn s) && leb (stepsIn s) 4096
 
--- "Order: file 1 (under 5 bytes), 3, 1, 2, 4": "1 too short for its sizes. 2 too long. 3 a size out of range. 4 no copy, a copy or home on
--- an absent card, or a primary without a copy." 0: the file is accepted.
+-- 1 for fewer than 5 bytes, 3, 1 and 2 by its length, 4 (RULES 8.3). 0: the file is accepted.
 unfoldable pub fileRefusal : List ℕ → ℕ
 fileRefusal s =
     cond (ltb (length s) 5) 1

@@ -1,4 +1,4 @@
--- A run step by step: the store after each step, and the step's answer, from any content of the two memories.
+-- A run step by step (RULES 12.2): the store after each step, and the step's answer, from any content of the two memories.
 use Prim.Native.Nat.{ℕ}
 use mathlib.Core.Bool.{cond}
 use mathlib.Core.List.{List}

@@ -1,4 +1,4 @@
-// Run files and answer files (01, "Run file and answer file"). A run file is read where it lies: nothing of it is copied.
+// Run files and answer files (RULES 3, 4). A run file is read where it lies: nothing of it is copied.
 ghost use mathlib.Core.Path.{_≡_};
 ghost use Prim.Native.Nat.{_+_, _≤_, _<_};
 ghost use lib.ListN.{getD, length};

@@ -1,6 +1,6 @@
 // K13: request 65,535 passes, the next gives 23. Only calls beyond one file reach it.
-use super::text::count;
-use super::text::say;
+use console::tell;
+use console::tell_one;
 use names::Card;
 use names::Register;
 
@@ -48,23 +48,27 @@ fn read_often(registers: &mut [u32; 1544], channel: &mut [u32; 4808]) -> u32 {
 }
 
 // What a request gives now.
-fn one_more(registers: &mut [u32; 1544], channel: &mut [u32; 4808]) {
+fn one_more(
+    page: &mut [u8; 65536],
+    at: usize,
+    registers: &mut [u32; 1544],
+    channel: &mut [u32; 4808],
+) -> usize {
     let answer = store::step(registers, channel, 1, [0; 8]);
-    count(b", requests ", store::requests(registers));
-    count(b", one more gives ", answer.result as u32);
+    let numbers = [store::requests(registers), answer.result as u32];
+    tell(page, at, b", requests #, one more gives #", &numbers)
 }
 
 // One card, one register, one task.
-pub(crate) fn reads() {
+pub(crate) fn reads(page: &mut [u8; 65536], at: usize) -> usize {
     let mut registers = [0u32; 1544];
     let mut channel = [0u32; 4808];
     store::start(&mut registers, &mut channel, 1, b"\x00", b"\x01", b"\x00");
-    count(
-        b"k13    65535 rounds of 3 steps, taken ",
-        read_often(&mut registers, &mut channel),
-    );
-    one_more(&mut registers, &mut channel);
-    say(b"\n");
+    let taken = read_often(&mut registers, &mut channel);
+    let text = b"k13    65535 rounds of 3 steps, taken #";
+    let a = tell_one(page, at, text, taken);
+    let b = one_more(page, a, &mut registers, &mut channel);
+    console::say(page, b, b"\n")
 }
 
 // Task 0 adds 1 to register 0: an update that both cards take and deliver.
@@ -93,23 +97,25 @@ fn broadcast_often(registers: &mut [u32; 1544], channel: &mut [u32; 4808]) -> u3
     taken
 }
 
+fn copies(
+    page: &mut [u8; 65536],
+    at: usize,
+    registers: &[u32; 1544],
+    channel: &[u32; 4808],
+) -> usize {
+    let first = store::value(registers, channel, Card(0), Register(0));
+    let second = store::value(registers, channel, Card(1), Register(0));
+    tell(page, at, b", copies # and #\n", &[first, second])
+}
+
 // Two cards with a copy each: broadcast numbers end with the requests.
-pub(crate) fn broadcasts() {
+pub(crate) fn broadcasts(page: &mut [u8; 65536], at: usize) -> usize {
     let mut registers = [0u32; 1544];
     let mut channel = [0u32; 4808];
     store::start(&mut registers, &mut channel, 2, b"\x00", b"\x03", b"\x00");
-    count(
-        b"k13    65535 broadcasts in rounds of 8 steps, taken ",
-        broadcast_often(&mut registers, &mut channel),
-    );
-    one_more(&mut registers, &mut channel);
-    count(
-        b", copies ",
-        store::value(&registers, &channel, Card(0), Register(0)),
-    );
-    count(
-        b" and ",
-        store::value(&registers, &channel, Card(1), Register(0)),
-    );
-    say(b"\n");
+    let taken = broadcast_often(&mut registers, &mut channel);
+    let text = b"k13    65535 broadcasts in rounds of 8 steps, taken #";
+    let a = tell_one(page, at, text, taken);
+    let b = one_more(page, a, &mut registers, &mut channel);
+    copies(page, b, &registers, &channel)
 }

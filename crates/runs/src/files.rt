@@ -1,16 +1,26 @@
 // A stored run and its stored answer.
 ghost use Rattle.io.specs.Counts.{Counts};
 ghost use Prim.Native.Nat.{_≤_};
-use super::text::count;
-use super::text::say;
+use console::say;
+use console::tell;
+use console::tell_one;
 use names::placement::byte;
 use names::wide;
 
-// A file of the folder that the program runs in, at the start of a buffer; nothing where it is missing.
+// Where a file of the folder that the program runs in cannot be opened, the program ends.
+fn opened(path: &[u8]) -> i32 {
+    let fd = os::open_read(path);
+    if fd < 0 {
+        console::unread(b"runs");
+    }
+    fd
+}
+
+// A file at the start of a buffer.
 fn read(path: &[u8], buffer: &mut [u8]) -> usize
     ensures { λ r. ⌜ Counts r (now (buffer .exit)) ⌝ }
 {
-    let fd = os::open_read(path);
+    let fd = opened(path);
     let n = io::read_full(fd, buffer);
     libc::close(fd);
     n
@@ -55,59 +65,82 @@ fn occurs(out: &[u8], end: usize, number: u32) -> bool {
     false
 }
 
-fn say_if_occurs(out: &[u8], end: usize, number: u32) {
+fn say_if_occurs(page: &mut [u8; 65536], at: usize, out: &[u8], end: usize, number: u32) -> usize {
     if occurs(out, end, number) {
-        count(b" ", number);
+        return tell_one(page, at, b" #", number);
     }
+    at
 }
 
 // The refusals that occur.
-fn refusals(out: &[u8]) {
+fn refusals(page: &mut [u8; 65536], at: usize, out: &[u8]) -> usize {
     let end = 2 + wide(steps(out));
-    say(b", with");
+    let mut next = say(page, at, b", with");
     let mut number: u32 = 1;
     while number < 256 {
-        say_if_occurs(out, end, number);
+        next = say_if_occurs(page, next, out, end, number);
         number += 1;
     }
+    next
 }
 
-fn verdict(out: &[u8], answer: &[u8]) {
-    if answer.len() != 2 + 5 * wide(steps(out)) {
-        say(b": differs in length\n");
-        return;
-    }
+fn differs(page: &mut [u8; 65536], at: usize, out: &[u8], answer: &[u8]) -> usize {
     let i = difference(out, answer);
     if i == out.len() {
-        say(b": agrees\n");
-        return;
+        return say(page, at, b": agrees\n");
     }
-    say(b": differs at byte ");
-    io::print_decimal(1, i as u64);
-    say(b"\n");
+    let a = say(page, at, b": differs at byte ");
+    let b = console::size(page, a, i);
+    say(page, b, b"\n")
+}
+
+fn verdict(page: &mut [u8; 65536], at: usize, out: &[u8], answer: &[u8]) -> usize {
+    if answer.len() != 2 + 5 * wide(steps(out)) {
+        return say(page, at, b": differs in length\n");
+    }
+    differs(page, at, out, answer)
+}
+
+fn refused_file(page: &mut [u8; 65536], at: usize, refusal: u8) -> usize {
+    tell_one(page, at, b" file refused #\n", refusal as u32)
+}
+
+// What is said of an accepted file.
+fn told(
+    page: &mut [u8; 65536],
+    at: usize,
+    out: &[u8],
+    answer: &[u8],
+    taken: u32,
+    refused: u32,
+) -> usize {
+    let numbers = [steps(out), taken, refused];
+    let a = tell(page, at, b" steps #, taken #, refused #", &numbers);
+    let b = refusals(page, a, out);
+    verdict(page, b, out, answer)
 }
 
 // The file is answered, and the answer compared.
-fn compare(name: &[u8], file: &[u8], answer: &[u8], out: &mut [u8]) {
-    say(name);
+fn compare(page: &mut [u8; 65536], at: usize, file: &[u8], answer: &[u8], out: &mut [u8]) -> usize {
     let answered = runfile::answer(file, out);
     if answered.refusal != 0 {
-        count(b" file refused ", answered.refusal as u32);
-        say(b"\n");
-        return;
+        return refused_file(page, at, answered.refusal);
     }
-    count(b" steps ", steps(out));
-    count(b", taken ", answered.taken);
-    count(b", refused ", answered.refused);
-    refusals(out);
-    verdict(out, answer);
+    told(page, at, out, answer, answered.taken, answered.refused)
 }
 
-pub(crate) fn run(name: &[u8], file: &[u8], answer: &[u8]) {
+pub(crate) fn run(
+    page: &mut [u8; 65536],
+    at: usize,
+    name: &[u8],
+    file: &[u8],
+    answer: &[u8],
+) -> usize {
     let mut input = io::large_buffer();
     let mut stored = io::large_buffer();
     let mut out = [165u8; 20482];
     let n = read(file, &mut input);
     let m = read(answer, &mut stored);
-    compare(name, &input[..n], &stored[..m], &mut out);
+    let a = say(page, at, name);
+    compare(page, a, &input[..n], &stored[..m], &mut out)
 }

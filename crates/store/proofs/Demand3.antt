@@ -57,7 +57,7 @@ module _ (P : Placement) where
       let card : i < P .cards = ltb-true _ _ (and-fst (ltb i (P .cards)) (memberOf (holders P x) i) c) in
       sym (v .registers-show .table= i x (rw (← v .cards=) card) (rw (← v .registers=) (register-there x i c)))
 
--- "a single claim about the list"
+-- one claim about the whole list (RULES 12.9)
 pub store-demand-3 : Demand3
 store-demand-3 P ok m steps =
     let r = demand-3 P ok steps in
@@ -76,6 +76,6 @@ store-demand-3 P ok m steps =
       },
     )
 
--- "Each step is taken or refused by the rules above"
+-- the store's result at each step is the ledger's (RULES 12.3)
 pub store-ledger-results : LedgerResults
 store-ledger-results P ok m steps = subst (LedgerNumbers P steps) (sym (answers-same P (started P m) begin steps (start-stands P ok m))) (ledger-numbers P ok steps)

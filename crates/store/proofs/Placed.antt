@@ -28,7 +28,7 @@ module _ (P : Placement) (ok : placementRefusal P ≡ 0) where
   unfolding sized sizesInRange
   sizes = and-fst (sizesInRange (P .cards) (registers P) (tasks P)) (eqb (length (P .primaries)) (registers P)) (passed .0)
 
-  -- "Cards 1 to 8, registers 1 to 32, tasks 1 to 16", as the channel has them
+  -- the sizes of RULES 1.3, as the channel has them
   pub channel-sizes : sizesFit (P .cards) (tasks P) (registers P) ≡ true
   channel-sizes =
       let u = and-five (leb 1 (P .cards)) (leb (P .cards) 8) (leb 1 (registers P)) (leb (registers P) 32) (leb 1 (tasks P))

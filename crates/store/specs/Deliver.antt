@@ -1,5 +1,4 @@
--- Step 9: "Deliver the inbox head. Read: a reply to the task's card, with the value, joins this card's outbox. Update: applied; if the
--- task's home is here it is done; if its home holds no copy and this card is primary, a reply joins likewise. Reply: the task is done."
+-- Step 9 (RULES 5.9).
 use Prim.Native.Nat.{ℕ, zero, suc}
 use mathlib.Core.Bool.{Bool, true, false, cond, _&&_, not}
 use mathlib.Core.List.{List}
@@ -24,15 +23,15 @@ use Rattle.store.specs.Perform.{copyUpdated}
 unfoldable pub replied : List ℕ → ℕ → ℕ → ℕ → Body → List ℕ
 replied ws i t x b = posted ws i (letterFor i t x b (onlyCard (homeOf ws t)))
 
--- "this card is primary"
+-- card i is the primary
 abbrev pub isPrimary : ℕ → ℕ → Bool
 isPrimary i p = eqb i p
 
--- an update's reply is due here: "its home holds no copy and this card is primary"
+-- an update's reply is due here: the task's home holds no copy, and card i is the register's primary
 unfoldable pub repliesHere : List ℕ → ℕ → ℕ → ℕ → Bool
 repliesHere ws i t x = isPrimary i (primaryOf ws x) && not (holds ws x (homeOf ws t))
 
--- "applied; if the task's home is here it is done"
+-- the update is applied; if the task's home is card i, the task is done
 unfoldable pub applied : List ℕ → ℕ → ℕ → ℕ → ℕ → ℕ → List ℕ
 applied ws i t x f w =
     cond (eqb i (homeOf ws t)) (doingStored (copyUpdated ws i x f w) t DoneUpdate) (copyUpdated ws i x f w)
@@ -60,7 +59,7 @@ messageNumber ws i m = bodyNumber ws i (m .task .0) (m .register .0) (m .body)
 abbrev pub messageWords : List ℕ → ℕ → Message → List ℕ
 messageWords ws i m = bodyWords ws i (m .task .0) (m .register .0) (m .body)
 
--- 33 "inbox empty"; 14 an absent card
+-- 33: the inbox is empty; 14 an absent card
 unfoldable pub foundNumber : List ℕ → ℕ → Received → ℕ
 foundNumber ws i (Got m) = messageNumber ws i m
 foundNumber ws i NoSuchCard = 14

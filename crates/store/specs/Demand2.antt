@@ -1,5 +1,5 @@
--- Demand 2: the store takes the step that the published algorithm takes, from every well-sized pair of memories, not only from reached
--- ones; and refuses where 01 refuses, with its number, leaving both memories as they were.
+-- Demand 2 (RULES 12.1): the store takes the step that the published algorithm takes, from every well-sized pair of memories, not only from
+-- reached ones; and refuses where RULES 8 says, with the number that it says, leaving both memories as they were.
 use Prim.Native.Nat.{ℕ}
 use mathlib.Core.Path.{_≡_}
 use mathlib.Core.Logic.{_≢_}
@@ -27,7 +27,7 @@ pub record StepFollows (rs cs : List ℕ) (P : Placement) (s : Published) (o : O
   pub answer= : o .answer ≡ answerDecoded P s d
   -- the memories show the published state after the step, and are well sized
   pub stands : Stands (o .registers) (o .channel) P (afterDecoded P s d)
-  -- "6 to 35: state unchanged"
+  -- a refused step leaves the store as it was (RULES 8.1)
   pub refused : o .answer .result ≢ 0 → (o .registers ≡ rs) × (o .channel ≡ cs)
 
 pub record Demand2 : Type 0 where

@@ -1,7 +1,5 @@
--- 6 for the state (01, "Who can cause which refusal"): "an ill-sized state: a size, number or queue length past its limit .. A home,
--- destination or message field naming an absent card, task or register, or an unknown function, is past its limit too. So is a card's number
--- of broadcasts taken when it is above the number made or more than 64 below it." Of memories of any content and length, exactly the kinds
--- listed here; so every other state moves as 01 says. It looks at the words of both layers.
+-- 6 for the state (RULES 8.6, parts a to k): of memories of any content and length, exactly the kinds listed here; so every other state, those
+-- of 8.7 too, moves as the rules say. It looks at the words of both layers.
 use Prim.Native.Nat.{ℕ, _+_, _-_, _<_, _≤_, _^_}
 use mathlib.Core.Path.{_≡_}
 use mathlib.Core.Logic.{_↔_}
@@ -23,48 +21,48 @@ use Rattle.tables.specs.Sized.{storeSized}
 use Rattle.store.specs.Step.{outcome, stepped}
 
 pub data IllSized (rs cs : List ℕ) : Type 0 where
-  -- "a size": "Cards 1 to 8, registers 1 to 32, tasks 1 to 16"
+  -- a: sizes
   no-card : getD cs cardsWord 0 ≡ 0 → IllSized rs cs
   cards : 8 < getD cs cardsWord 0 → IllSized rs cs
   no-register : getD cs registersWord 0 ≡ 0 → IllSized rs cs
   registers : 32 < getD cs registersWord 0 → IllSized rs cs
   no-task : getD cs tasksWord 0 ≡ 0 → IllSized rs cs
   tasks : 16 < getD cs tasksWord 0 → IllSized rs cs
-  -- "number": "broadcast numbers and taken requests end at 65,535"
+  -- b: broadcasts made, requests taken
   broadcasts : 65535 < madeOf cs → IllSized rs cs
   requests : 65535 < requestsOf rs → IllSized rs cs
-  -- "queue length": "an outbox has at most 16 messages, an inbox 48, and at most 16 messages are held"
+  -- c: queue lengths
   outbox : (i : ℕ) → i < cardsOf cs → 16 < outCountOf rs i → IllSized rs cs
   inbox : (i : ℕ) → i < cardsOf cs → 48 < countOf cs i → IllSized rs cs
   held : (i : ℕ) → i < cardsOf cs → 16 < heldCountOf cs i → IllSized rs cs
-  -- "A home"
+  -- d: a home
   home : (t : ℕ) → t < tasksOf cs → cardsOf cs ≤ homeOf rs t → IllSized rs cs
-  -- "destination": a register's holders and its primary, to which requests go
+  -- d: a register's holders, its primary
   holders : (x : ℕ) → x < registersOf cs → 2 ^ cardsOf cs ≤ holdersOf rs x → IllSized rs cs
   primary : (x : ℕ) → x < registersOf cs → cardsOf cs ≤ primaryOf rs x → IllSized rs cs
-  -- "an absent .. register, or an unknown function", of what a task asks
+  -- e: what a task asks
   read : (t : ℕ) (x : Register) → t < tasksOf cs → doingAt rs t ≡ AskingRead x → registersOf cs ≤ x .0 → IllSized rs cs
   update : (t : ℕ) (x : Register) (f w : ℕ) → t < tasksOf cs → doingAt rs t ≡ AskingUpdate x f w → registersOf cs ≤ x .0 → IllSized rs cs
   no-function : (t : ℕ) (x : Register) (w : ℕ) → t < tasksOf cs → doingAt rs t ≡ AskingUpdate x 0 w → IllSized rs cs
   function : (t : ℕ) (x : Register) (f w : ℕ) → t < tasksOf cs → doingAt rs t ≡ AskingUpdate x f w → 4 < f → IllSized rs cs
-  -- "destination or message field", and a tag: of a message in an outbox, in an inbox, held, in flight, or among the last 64 broadcasts. One
-  -- rule for all; beyond 01's list it has a kind of message that there is not, and no destination.
+  -- f, g, i: of a message in an outbox, in an inbox, held, in flight, or among the last 64 broadcasts, one rule for all: its fields, its tag, and
+  -- that it has a kind and a destination
   out-message : (i k : ℕ) → i < cardsOf cs → k < outCountOf rs i → PastBlock cs rs (outPlace rs i k) → IllSized rs cs
   inbox-message : (i k : ℕ) → i < cardsOf cs → k < countOf cs i → PastBlock cs cs (placeOf cs i k) → IllSized rs cs
   held-message : (i k : ℕ) → i < cardsOf cs → k < heldCountOf cs i → PastBlock cs cs (heldBlock i k) → IllSized rs cs
   flight-message : (t : ℕ) → t < tasksOf cs → noFlight cs t ≡ false → PastBlock cs cs (flightBlock t) → IllSized rs cs
   broadcast-message : (k : ℕ) → k < madeOf cs → k < 64 → PastBlock cs cs (broadcastBlock (madeOf cs - k)) → IllSized rs cs
-  -- "a card's number of broadcasts taken when it is above the number made or more than 64 below it"
+  -- h: broadcasts taken
   above : (i : ℕ) → i < cardsOf cs → madeOf cs < takenOf cs i → IllSized rs cs
   below : (i : ℕ) → i < cardsOf cs → takenOf cs i + 64 < madeOf cs → IllSized rs cs
-  -- Beyond 01's list, since the words then show no state of the store at all. A queue that starts past the end of its ring:
+  -- j: a queue that starts past the end of its ring
   outbox-head : (i : ℕ) → i < cardsOf cs → 16 ≤ outHeadOf rs i → IllSized rs cs
   inbox-head : (i : ℕ) → i < cardsOf cs → 48 ≤ headOf cs i → IllSized rs cs
-  -- a task that is doing none of the six things:
+  -- i: a task that is doing none of the six things
   doing : (t : ℕ) → t < tasksOf cs → 5 < getD rs (kindWord t) 0 → IllSized rs cs
-  -- a message in flight without exactly one destination, so that step 8's "its destination" is no card:
+  -- k: a message in flight without exactly one destination, so that there is no card that step 8 could take it to
   flight-destination : (t : ℕ) → t < tasksOf cs → noFlight cs t ≡ false → single (letterAt cs (flightBlock t) .to) ≡ false → IllSized rs cs
-  -- a broadcast with at most one destination, where "More than one destination" makes a broadcast.
+  -- k: a broadcast with at most one destination, which is none (RULES 6.1)
   broadcast-destination : (k : ℕ) → k < madeOf cs → k < 64 → several (letterAt cs (broadcastBlock (madeOf cs - k)) .to) ≡ false → IllSized rs cs
 
 pub record IllStates (rs cs : List ℕ) : Type 0 where

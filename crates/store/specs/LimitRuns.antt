@@ -1,6 +1,5 @@
--- Limits met exactly (01, "The ten steps": "Of any card, an outbox has at most 16 messages, an inbox 48, and at most 16 messages are held";
--- "Named runs": K11, K12): a run from a start reaches each, or its last step is the first refused. That none is passed says NeverSix; K13 is
--- LimitSteps.request.
+-- Limits met exactly (RULES 7.1 to 7.3; 7.5 and 7.6 by K11 and K12 of RULES 13): a run from a start reaches each, or its last step is the first
+-- refused. That none is passed says NeverSix; K13 is LimitSteps.request.
 use Prim.Native.Nat.{ℕ, zero, suc, _%_}
 use mathlib.Core.Path.{_≡_}
 use mathlib.Core.List.{List, [], _∷_, _++_, map}
@@ -62,11 +61,11 @@ held-run = broadcasts 1 ++ each-of 16 (λ t. reads t ++ arrives t)
 abbrev pub inbox-run : List RawStep
 inbox-run = broadcasts 32 ++ takes 32 ++ each-of 16 (λ t. reads t ++ arrives t)
 
--- "K11 a card takes nothing: broadcast 64 passes, 65 gives 34."
+-- K11: card 1 takes nothing; broadcast 64 passes, 65 gives 34
 abbrev pub k11 : List RawStep
 k11 = broadcasts 64 ++ shares 64
 
--- "K12 take 32 passes, 33 gives 35."
+-- K12: card 1 takes and does not deliver; the 32nd take passes, the 33rd gives 35
 abbrev pub k12 : List RawStep
 k12 = broadcasts 33 ++ takes 33
 

@@ -1,6 +1,5 @@
--- At each limit, of any published state, reached or not: the step that meets it is taken, and the next refused (01, "The ten steps", "Who can
--- cause which refusal": 23, 34, 35, and 6 for "a step that would make one"). Demand 2 says the same of every store that shows the state. It
--- looks at the channel's queues.
+-- At each limit (RULES 7.1 to 7.8), of any published state, reached or not: the step that meets it is taken, and the next refused, with 23, 34,
+-- 35 or 6 for the outcome (8.8). Demand 2 says the same of every store that shows the state. It looks at the channel's queues.
 use Prim.Native.Nat.{ℕ, suc, _+_, _<_}
 use mathlib.Core.Path.{_≡_}
 use mathlib.Core.Bool.{true, false, _&&_, not}
@@ -26,35 +25,35 @@ module _ (P : Placement) (s : Published) where
   Near = (j : ℕ) → j < P .cards → length sent < s .channel .taken j + 64
 
   pub record LimitSteps : Type 0 where
-    -- 23 "a request after 65,535 taken"
+    -- requests (7.8): 23
     pub request : (c x : ℕ) → s .status c ≡ quiet
         → (s .requests ≡ 65534 → commandRefusal P s (request-read c x) ≡ 0) × (s .requests ≡ 65535 → commandRefusal P s (request-read c x) ≡ 23)
-    -- "an outbox has at most 16 messages"
+    -- an outbox (7.1)
     pub outbox : (c x j : ℕ) → s .status c ≡ askingRead x → (not (copy P x (home P c)) && copy P x j) ≡ true
         → (length (s .out (home P c)) ≡ 15 → commandRefusal P s (send-read c j) ≡ 0)
         × (length (s .out (home P c)) ≡ 16 → commandRefusal P s (send-read c j) ≡ 6)
-    -- "broadcast numbers .. end at 65,535"
+    -- broadcast numbers (7.7)
     pub broadcast : (i : ℕ) (m : Letter) (r : List Letter) → s .out i ≡ m ∷ r → several (m .to) ≡ true → Near
         → (length sent ≡ 65534 → commandRefusal P s (dispatch i) ≡ 0) × (length sent ≡ 65535 → commandRefusal P s (dispatch i) ≡ 6)
-    -- 34 "a broadcast would leave some card more than 64 behind"
+    -- a card that is behind (7.5): 34
     pub behind : (i : ℕ) (m : Letter) (r : List Letter) → s .out i ≡ m ∷ r → several (m .to) ≡ true
         → (j : ℕ) → j < P .cards → length sent ≡ s .channel .taken j + 64 → commandRefusal P s (dispatch i) ≡ 34
-    -- "a task has at most one message in flight"
+    -- a message in flight (7.4)
     pub flight : (i : ℕ) (m : Letter) (r : List Letter) → s .out i ≡ m ∷ r → several (m .to) ≡ false
         → (s .channel .flight (m .task) ≡ none → commandRefusal P s (dispatch i) ≡ 0)
         × ((x : Tagged Letter) → s .channel .flight (m .task) ≡ some x → commandRefusal P s (dispatch i) ≡ 6)
-    -- 35 "the card is a destination and its inbox already has 32 undelivered broadcasts"; "an inbox 48"
+    -- undelivered broadcasts (7.6): 35; an inbox at step 7 (7.2)
     pub take : (i : ℕ) (m : Letter) → nth sent (s .channel .taken i) ≡ some m → memberOf (m .to) i ≡ true
         → (length (filter (mail .multi) (s .channel .inbox i)) ≡ 32 → commandRefusal P s (takeBroadcast i) ≡ 35)
         × (length (filter (mail .multi) (s .channel .inbox i)) ≡ 31 → length (push true m (s .channel .inbox i) ++ released (suc (s .channel .taken i)) (s .channel .held i)) ≡ 48
         → commandRefusal P s (takeBroadcast i) ≡ 0)
         × (length (filter (mail .multi) (s .channel .inbox i)) ≡ 31 → length (push true m (s .channel .inbox i) ++ released (suc (s .channel .taken i)) (s .channel .held i)) ≡ 49
         → commandRefusal P s (takeBroadcast i) ≡ 6)
-    -- "an inbox 48"
+    -- an inbox at step 8 (7.2)
     pub inbox : (c : ℕ) (x : Tagged Letter) → s .channel .flight c ≡ some x → ripe mail (s .channel) x ≡ true
         → (length (s .channel .inbox (soleOf (x .msg .to))) ≡ 47 → commandRefusal P s (takeSingle c) ≡ 0)
         × (length (s .channel .inbox (soleOf (x .msg .to))) ≡ 48 → commandRefusal P s (takeSingle c) ≡ 6)
-    -- "at most 16 messages are held"
+    -- held messages (7.3)
     pub held : (c : ℕ) (x : Tagged Letter) → s .channel .flight c ≡ some x → ripe mail (s .channel) x ≡ false
         → (length (s .channel .held (soleOf (x .msg .to))) ≡ 15 → commandRefusal P s (takeSingle c) ≡ 0)
         × (length (s .channel .held (soleOf (x .msg .to))) ≡ 16 → commandRefusal P s (takeSingle c) ≡ 6)

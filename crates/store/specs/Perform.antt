@@ -1,4 +1,4 @@
--- Step 3: "a read with a copy on the card takes its value and is done; an update whose only copy is on the card is applied and is done".
+-- Step 3 (RULES 5.3).
 use Prim.Native.Nat.{ℕ, zero, suc}
 use mathlib.Core.Bool.{Bool, true, false, cond, _&&_, not}
 use mathlib.Core.List.{List}
@@ -14,7 +14,7 @@ use Rattle.tables.specs.Doings.{doingAt, doingStored}
 unfoldable pub alone : List ℕ → ℕ → ℕ → Bool
 alone ws x i = holds ws x i && not (several (holdersOf ws x))
 
--- 22 "copies lie otherwise than steps 3 to 5 say"
+-- 22: copies lie otherwise than the step asks
 unfoldable pub performReadNumber : List ℕ → ℕ → ℕ → ℕ
 performReadNumber ws t x = cond (holds ws x (homeOf ws t)) 0 22
 
@@ -32,7 +32,7 @@ unfoldable pub performUpdateWords : List ℕ → ℕ → ℕ → ℕ → ℕ →
 performUpdateWords ws t x f w =
     cond (alone ws x (homeOf ws t)) (doingStored (copyUpdated ws (homeOf ws t) x f w) t DoneUpdate) ws
 
--- 21 "not asking (3, 4, 5 ..)"
+-- 21: the task does not ask
 unfoldable pub performNumberOf : List ℕ → ℕ → Doing → ℕ
 performNumberOf ws t Quiet = 21
 performNumberOf ws t (AskingRead x) = performReadNumber ws t (x .0)

@@ -1,4 +1,4 @@
--- Steps 1 and 2: "the quiet task now asks". Step 10: "a done task becomes quiet".
+-- Steps 1 and 2: the quiet task now asks (RULES 5.1, 5.2). Step 10: the done task becomes quiet (5.10).
 use Prim.Native.Nat.{ℕ, zero, suc, _+_}
 use mathlib.Core.Bool.{Bool, true, false, cond}
 use mathlib.Core.List.{List}
@@ -22,7 +22,7 @@ isQuiet Waiting = false
 isQuiet (DoneRead v) = false
 isQuiet DoneUpdate = false
 
--- 20 "request while not quiet"; 23 "a request after 65,535 taken"
+-- 20: the task is not quiet; 23: 65,535 requests were taken before (RULES 7.8)
 unfoldable pub requestNumber : List ℕ → ℕ → ℕ
 requestNumber ws t = cond (isQuiet (doingAt ws t)) (cond (ltb (requestsOf ws) 65535) 0 23) 20
 
@@ -30,7 +30,7 @@ requestNumber ws t = cond (isQuiet (doingAt ws t)) (cond (ltb (requestsOf ws) 65
 unfoldable pub requestWords : List ℕ → ℕ → Doing → List ℕ
 requestWords ws t d = cond (eqb (requestNumber ws t) 0) (set (doingStored ws t d) requestsWord (requestsOf ws + 1)) ws
 
--- 21 "not done (10)"; "the value read for a taken report of a read and 0 otherwise"
+-- 21: the task is not done; the value read for a report of a read, else 0 (RULES 4.3)
 unfoldable pub reportOf : Doing → Answer
 reportOf Quiet = bare 21
 reportOf (AskingRead x) = bare 21

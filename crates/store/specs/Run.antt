@@ -1,5 +1,4 @@
--- The store from a start on: "each step gets the store that the one before returned or left, taken or refused, and nobody else writes it
--- meanwhile" (01, "What demand 3 speaks of").
+-- The store from a start on (RULES 12.2): each step gets the store that the one before left, taken or refused; nobody else writes it.
 use Prim.Native.Nat.{ℕ}
 use mathlib.Core.List.{List, [], _∷_}
 use Rattle.names.specs.declared.Answer.{Answer}
@@ -52,6 +51,6 @@ abbrev pub answersAdvancing : Store → List RawStep → List Answer
 answersAdvancing m [] = []
 answersAdvancing m (a ∷ l) = advanced (m .registers) (m .channel) (a .code) (a .argument) .answer ∷ answersAdvancing (advance m a) l
 
--- "the store's table of copies"
+-- the store's table of copies (RULES 11.8)
 abbrev pub tableOf : Store → ℕ → ℕ → ℕ
 tableOf m i x = copyOf (m .registers) i x

@@ -1,5 +1,4 @@
--- Step 4: "no copy on the card; a read message to the chosen holder joins the card's outbox; the task waits". Step 5: "the card isn't the
--- only holder; an update message to all holders joins the outbox; the task waits".
+-- Steps 4 and 5 (RULES 5.4, 5.5): a message joins the outbox of the task's home, and the task waits.
 use Prim.Native.Nat.{ℕ, zero, suc}
 use mathlib.Core.Bool.{Bool, true, false, cond, _&&_, not}
 use mathlib.Core.List.{List}
@@ -17,14 +16,14 @@ use Rattle.store.specs.Perform.{alone}
 unfoldable pub sent : List ℕ → ℕ → ℕ → Body → ℕ → List ℕ
 sent ws t x b to = doingStored (posted ws (homeOf ws t) (letterFor (homeOf ws t) t x b to)) t Waiting
 
--- 22 "copies lie otherwise than steps 3 to 5 say"; 6: the message would be the 17th in the outbox
+-- 22: copies lie otherwise than the step asks; 6: the message would be the 17th in the outbox (RULES 7.1)
 unfoldable pub sendReadNumber : List ℕ → ℕ → ℕ → ℕ → ℕ
 sendReadNumber ws t j x = cond (not (holds ws x (homeOf ws t)) && holds ws x j) (cond (roomy ws (homeOf ws t)) 0 6) 22
 
 unfoldable pub sendReadWords : List ℕ → ℕ → ℕ → ℕ → List ℕ
 sendReadWords ws t j x = cond (eqb (sendReadNumber ws t j x) 0) (sent ws t x ReadDo (onlyCard j)) ws
 
--- 6 too for a message to nobody
+-- 6 too for a message to nobody (RULES 8.8)
 unfoldable pub sendUpdateNumber : List ℕ → ℕ → ℕ → ℕ
 sendUpdateNumber ws t x =
     cond (not (alone ws x (homeOf ws t))) (cond (leb 1 (holdersOf ws x)) (cond (roomy ws (homeOf ws t)) 0 6) 6) 22
@@ -32,7 +31,7 @@ sendUpdateNumber ws t x =
 unfoldable pub sendUpdateWords : List ℕ → ℕ → ℕ → ℕ → ℕ → List ℕ
 sendUpdateWords ws t x f w = cond (eqb (sendUpdateNumber ws t x) 0) (sent ws t x (UpdateDo f w) (holdersOf ws x)) ws
 
--- 21 "not asking (3, 4, 5; 4 wants a read, 5 an update)"
+-- 21: the task does not ask to read (step 4), to update (step 5)
 unfoldable pub readNumberOf : List ℕ → ℕ → ℕ → Doing → ℕ
 readNumberOf ws t j Quiet = 21
 readNumberOf ws t j (AskingRead x) = sendReadNumber ws t j (x .0)

@@ -1,5 +1,4 @@
--- What a start makes (01, "Who can cause which refusal": "A start made from a placement without a file meets 3, then 4, and no state is
--- begun"; "No state reached by calls from a start ever gives 6").
+-- What a start makes (RULES 10.2, 10.3), and what no run from a start gives (12.10).
 use Prim.Native.Nat.{_≤_}
 use mathlib.Core.Path.{_≡_}
 use mathlib.Core.Logic.{_≢_}
@@ -21,14 +20,14 @@ pub record Starts : Type 0 where
   -- a refused one: both memories as they were
   pub refused : (P : Placement) → placementRefusal P ≢ 0 → (m : Store) → started P m ≡ m
 
--- after any list of steps from a start the state is well sized, and no step is refused with 6, for the state or for the outcome
+-- after any list of steps from a start the state is well sized, and no step is refused with 6, for the state or for the outcome (RULES 12.10)
 pub record NeverSix : Type 0 where
   pub state : (P : Placement) → placementRefusal P ≡ 0 → (m : Store) (steps : List RawStep)
       → storeSized (storeAfter (started P m) steps .registers) (storeAfter (started P m) steps .channel) ≡ true
   pub outcome : (P : Placement) → placementRefusal P ≡ 0 → (m : Store) (steps : List RawStep) (a : RawStep)
       → answer (storeAfter (started P m) steps) a .result ≢ 6
 
--- 23 "a request after 65,535 taken": no list of at most 65,535 steps meets it, and so no accepted file
+-- 23: no list of at most 65,535 steps meets it, and so no accepted file (RULES 12.10)
 abbrev pub NeverTwentyThree : Type 0
 NeverTwentyThree = (P : Placement) → placementRefusal P ≡ 0 → (m : Store) (steps : List RawStep) → length steps ≤ 65535
     → (r : Answer) → In r (answersOf (started P m) steps) → r .result ≢ 23

@@ -1,4 +1,4 @@
--- A step on the two memories, whatever they are: its answer, and both memories after it.
+-- A step on the two memories, whatever they are: its answer, and both memories after it (RULES 5.1 to 5.10, 8.5).
 use Prim.Native.Nat.{ℕ}
 use mathlib.Core.Bool.{Bool, true, false, cond}
 use mathlib.Core.List.{List}
@@ -50,6 +50,6 @@ obeyed rs cs (Bad n) = outcome n rs cs
 unfoldable pub advanced : List ℕ → List ℕ → ℕ → List ℕ → Outcome
 advanced rs cs code argument = obeyed rs cs (decodeOf code argument (cardsOf cs) (registersOf cs) (tasksOf cs))
 
--- "Step: 6 for the state, then rising number, then 6 for the outcome"
+-- 6 for the state, then rising number, then 6 for the outcome (RULES 8.5)
 unfoldable pub stepped : List ℕ → List ℕ → ℕ → List ℕ → Outcome
 stepped rs cs code argument = cond (storeSized rs cs) (advanced rs cs code argument) (outcome 6 rs cs)

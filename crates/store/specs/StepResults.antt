@@ -1,5 +1,5 @@
--- What a result says, and when each comes: the store's answers in the terms of claims/specs/Allowed and Numbers, from every well-sized pair
--- of memories that shows a state.
+-- What a result says, and when each comes (RULES 8.2, 8.5): the store's answers in the terms of claims/specs/Allowed and Numbers, from every
+-- well-sized pair of memories that shows a state.
 use Prim.Native.Nat.{ℕ}
 use mathlib.Core.Path.{_≡_}
 use mathlib.Core.Logic.{_⊎_, _↔_}
@@ -26,5 +26,5 @@ pub record StepResults : Type 0 where
   -- another number exactly if the step is misformed so, or decodes to a command for which that number comes
   pub refused : (rs cs : List ℕ) (P : Placement) (s : Published) → Stands rs cs P s → (a : RawStep) (n : ℕ) → ¬ (n ≡ 0)
       → (resultOf rs cs a ≡ n) ↔ (Misformed P a n ⊎ ((c : Command) × (decode P a ≡ good c) × Comes P s n c))
-  -- a step that does not check the state first is the same step, on every well-sized pair
+  -- a step that does not check the state first is the same step, on every well-sized pair (RULES 11.10)
   pub unchecked : (rs cs : List ℕ) → storeSized rs cs ≡ true → (a : RawStep) → advanced rs cs (a .code) (a .argument) ≡ stepped rs cs (a .code) (a .argument)

@@ -1,4 +1,4 @@
--- Step 6: "Dispatch the head of a card's outbox"; the channel's part is the channel's own. Steps 7 and 8 are the channel's alone.
+-- Step 6 (RULES 5.6): the head of a card's outbox is dispatched; the channel's part is the channel's own. Steps 7 and 8 are the channel's alone.
 use Prim.Native.Nat.{ℕ, zero, suc}
 use mathlib.Core.Bool.{Bool, true, false, cond}
 use mathlib.Core.List.{List}
@@ -17,7 +17,7 @@ handedAnswer cs card l = dispatchAnswer cs card (l .message) (l .to)
 abbrev pub handedMemory : List ℕ → Card → Letter → List ℕ
 handedMemory cs card l = dispatchMemory cs card (l .message) (l .to)
 
--- 30 "outbox empty", then the channel's numbers
+-- 30: the outbox is empty; then the channel's numbers
 unfoldable pub dispatchNumber : List ℕ → List ℕ → Card → ℕ
 dispatchNumber rs cs card = cond (eqb (outCountOf rs (card .0)) 0) 30 (answerNumber (handedAnswer cs card (firstOut rs (card .0))))
 

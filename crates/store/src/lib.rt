@@ -1,5 +1,6 @@
 // The register store (000 §5 over the channel of §6): a start from a placement and the ten steps. The state lies in two arrays of words that
-// the caller lends, the registers' and the channel's; specs/Layout says where each thing lies in the first, and nothing here reads the second.
+// the caller lends, the registers' and the channel's; tables/specs/Layout says where each thing lies in the first, and nothing here reads the
+// second.
 
 mod asking;
 mod deliver;

@@ -8,7 +8,7 @@ use tables::outbox::count;
 use tables::outbox::first;
 use tables::outbox::unpost;
 
-// Document 01's number of the channel's answer.
+// The number of the channel's answer (RULES 8.2).
 pub(crate) fn number_of(answer: channel::Answer) -> u8
     ensures { λ r. ⌜ r ≡ answerNumber answer ⌝ }
 {

@@ -1,4 +1,5 @@
--- What a task is doing (000, Figure 5: status(c)), in four words: kind, register, function, value.
+-- What a task is doing (RULES 1.8; 000 Figure 5: status(c)), in four words: kind, register, function, value. A kind past the last counts as
+-- the last (11.9).
 use Prim.Native.Nat.{ℕ, zero, suc}
 use mathlib.Core.Bool.{Bool, true, false, cond}
 use mathlib.Core.List.{List}

@@ -1,8 +1,8 @@
--- Where things lie in the registers' memory, 1,544 words that the caller lends. Word 0 is the number of requests taken; words 1 to 7 are
--- zero. Then eight words for each task: home, what it is doing (kind, register, function, value), three spare. Then the set of holders
--- of each register, then the primary of each. Then the copies, card after card. Then each card's outbox: where it starts, how many
--- messages, six spare words, 16 blocks (a ring) of eight words. The numbers of cards, tasks and registers are the channel's. A card, task
--- or register past its largest number, which no well-sized memory has, counts as the remainder.
+-- Where things lie in the registers' memory, 1,544 words that the caller lends (RULES 11.1). Word 0 is the number of requests taken; words 1 to
+-- 7 are zero. Then eight words for each task: home, what it is doing (kind, register, function, value), three spare. Then the set of holders of
+-- each register, then the primary of each. Then the copies, card after card. Then each card's outbox: where it starts, how many messages, six
+-- spare words, 16 blocks (a ring) of eight words. The numbers of cards, tasks and registers are the channel's. A card, task or register past its
+-- largest number, which no well-sized memory has, counts as the remainder.
 use Prim.Native.Nat.{ℕ, _+_, _*_, _%_}
 use mathlib.Core.Bool.{Bool}
 use mathlib.Core.List.{List}
@@ -35,7 +35,7 @@ holdersWord x = 136 + x % 32
 abbrev pub primaryWord : ℕ → ℕ
 primaryWord x = 168 + x % 32
 
--- "In the state the copies lie card after card"
+-- the copies lie card after card (RULES 11.8)
 abbrev pub copyWord : ℕ → ℕ → ℕ
 copyWord i x = 200 + i % 8 * 32 + x % 32
 

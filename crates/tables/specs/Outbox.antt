@@ -1,4 +1,4 @@
--- A card's outbox, a ring of 16 blocks, "first in, first out"; "an outbox has at most 16 messages".
+-- A card's outbox, a ring of 16 blocks, first in, first out (RULES 5.11), for at most 16 messages (7.1).
 use Prim.Native.Nat.{ℕ, zero, suc, _+_, _-_, _*_, _%_}
 use mathlib.Core.Bool.{Bool, true, false, cond}
 use mathlib.Core.List.{List}

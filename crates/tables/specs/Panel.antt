@@ -1,4 +1,4 @@
--- What the memories say to one who looks: 0 and quiet for an absent card, task or register.
+-- What the memories say to one who looks (RULES 11.6, 11.7): 0 and quiet for an absent card, task or register.
 use Prim.Native.Nat.{ℕ}
 use mathlib.Core.Bool.{Bool, true, false, cond, _&&_}
 use mathlib.Core.List.{List}

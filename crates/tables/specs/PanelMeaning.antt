@@ -1,4 +1,5 @@
--- What a panel shows is the published state, and where the copies lie: said apart from the definitions that code and laws share.
+-- What a panel shows (RULES 11.6) is the published state, and where the copies lie (11.8): said apart from the definitions that code and laws
+-- share.
 use Prim.Native.Nat.{ℕ, _+_, _*_, _<_, _≤_}
 use mathlib.Core.Path.{_≡_}
 use mathlib.Core.Logic.{_⊎_}
@@ -24,6 +25,6 @@ pub record PanelMeaning (rs cs : List ℕ) (P : Placement) (s : Published) : Typ
   -- the number of requests taken
   pub requests : requestsOf rs ≡ s .requests
 
--- "In the state the copies lie card after card": from word 200 on 32 words for each card, in the order of the registers
+-- the copies lie card after card: from word 200 on 32 words for each card, in the order of the registers
 abbrev pub CardAfterCard : Type 0
 CardAfterCard = (rs : List ℕ) (i x : ℕ) → i < 8 → x < 32 → copyOf rs i x ≡ getD rs (200 + 32 * i + x) 0

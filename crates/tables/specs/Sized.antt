@@ -1,6 +1,5 @@
--- Well-sized memories: what a step must find, else it is refused with 6 ("an ill-sized state: a size, number or queue length past its limit
--- .. A home, destination or message field naming an absent card, task or register, or an unknown function, is past its limit too"). The
--- parts of absent cards, tasks and registers are not looked at.
+-- Well-sized memories: what a step must find, else it is refused with 6 (RULES 8.6, parts a to k). The parts of absent cards, tasks and
+-- registers are not looked at.
 use Prim.Native.Nat.{ℕ, _+_, _*_, _%_, _^_, min}
 use mathlib.Core.Bool.{Bool, true, false, _&&_}
 use mathlib.Core.List.{List}
@@ -15,7 +14,7 @@ use Rattle.tables.specs.Layout.{kindWord, requestsOf, homeOf, holdersOf,
 use Rattle.tables.specs.Doings.{doingAt}
 use Rattle.tables.specs.Outbox.{outHeadOf, outCountOf, outPlace}
 
--- an asking task's register is present, and its function known
+-- an asking task's register is present, and its function known (e)
 unfoldable pub doingFits : List ℕ → Doing → Bool
 doingFits cs Quiet = true
 doingFits cs (AskingRead x) = ltb (x .0) (registersOf cs)
@@ -24,23 +23,23 @@ doingFits cs Waiting = true
 doingFits cs (DoneRead v) = true
 doingFits cs DoneUpdate = true
 
--- task t: its home is present, and what it is doing is one of the six kinds
+-- task t: its home is present (d), and what it is doing is one of the six kinds (i)
 unfoldable pub taskFits : List ℕ → List ℕ → ℕ → Bool
 taskFits rs cs t = ltb (homeOf rs t) (cardsOf cs) && leb (getD rs (kindWord t) 0) 5 && doingFits cs (doingAt rs t)
 
--- register x: holders and primary are present cards
+-- register x: holders and primary are present cards (d)
 unfoldable pub registerFits : List ℕ → List ℕ → ℕ → Bool
 registerFits rs cs x = ltb (holdersOf rs x) (2 ^ cardsOf cs) && ltb (primaryOf rs x) (cardsOf cs)
 
--- place k of card i's outbox: the channel's rule for every block
+-- place k of card i's outbox: the channel's rule for every block (f, g, i)
 unfoldable pub outFits : List ℕ → List ℕ → ℕ → ℕ → Bool
 outFits rs cs i k = blockFits cs rs (outPlace rs i k)
 
--- card i: "an outbox has at most 16 messages"
+-- card i: where its outbox starts (j), and at most 16 messages in it (c)
 unfoldable pub outboxFits : List ℕ → List ℕ → ℕ → Bool
 outboxFits rs cs i = ltb (outHeadOf rs i) 16 && leb (outCountOf rs i) 16 && each (min (outCountOf rs i) 16) (outFits rs cs i)
 
--- the registers' memory, over a channel's; "taken requests end at 65,535"
+-- the registers' memory, over a channel's; at most 65,535 requests taken (b)
 unfoldable pub registersSized : List ℕ → List ℕ → Bool
 registersSized rs cs =
     leb (requestsOf rs) 65535 && each (tasksOf cs) (taskFits rs cs) && each (registersOf cs) (registerFits rs cs)

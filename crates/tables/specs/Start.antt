@@ -1,5 +1,4 @@
--- The start from a placement: "At first every task is quiet, every queue empty, nothing held or in flight, no broadcast made or taken";
--- "every copy starts at 0".
+-- The start from a placement (RULES 10.2, 10.3).
 use Prim.Native.Nat.{ℕ, zero, suc}
 use mathlib.Core.Bool.{Bool, true, false, cond}
 use mathlib.Core.List.{List}
@@ -24,7 +23,7 @@ module _ (p : Placement) where
   startWords =
       turns (registerSet (p .copies) (p .primaries)) (registers p) (turns (homeSet (p .homes)) (tasks p) (replicate 1544 0))
 
-  -- 3, then 4 "and no state is begun"
+  -- a refused placement begins no state
   unfoldable pub startRegisters : List ℕ → List ℕ
   startRegisters rs = cond (eqb (placementRefusal p) 0) startWords rs
 

@@ -29,7 +29,7 @@ raised-past a n h = go (decLt 4294967295 (a + n))
     go (yes l) = rw (lt-ltb 4294967295 (a + n) l)
     go (no g) = rw (le-ltb 4294967295 (a + n) (omega arith)) (omega arith)
 
--- "stays at its largest value once there"
+-- a count at its largest value stays there (RULES 9.2)
 pub raised-stays : (n : ℕ) → raised 4294967295 n ≡ 4294967295
 raised-stays n = raised-past 4294967295 n (omega arith)
 
@@ -76,7 +76,7 @@ pub step-taken : (t : Tally) → t .taken < 4294967295 → t .refused ≤ 429496
 unfolding countedStep isTaken counted
 step-taken t h g = ap₂ tallyOf (raised-below (t .taken) 1 (omega arith)) (omega (arith, raised-below (t .refused) 0 (omega arith)))
 
--- "Every refusal of a step counts, 6 too"
+-- every refusal counts, 6 too (RULES 9.3)
 pub step-refused : (t : Tally) (number : ℕ) → ¬ (number ≡ 0) → t .taken ≤ 4294967295 → t .refused < 4294967295 → countedStep t number ≡ tallyOf (t .taken) (t .refused + 1)
 unfolding countedStep isTaken counted
 step-refused t number n h g = rw (ne-eqb number 0 n) (ap₂ tallyOf (omega (arith, raised-below (t .taken) 0 (omega arith))) (raised-below (t .refused) 1 (omega arith)))

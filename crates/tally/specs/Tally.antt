@@ -1,5 +1,4 @@
--- "A tally of steps taken and steps refused is lent by its owner and brought up to date in place; each of the two 32-bit counts stays at
--- its largest value once there. Every refusal of a step counts, 6 too."
+-- A tally of steps taken and steps refused, lent by its owner and brought up to date in place (RULES 9.1 to 9.3).
 use Prim.Native.Nat.{ℕ, _+_}
 use mathlib.Core.Bool.{Bool, cond, not}
 use mathlib.Core.List.{List, [], _∷_}
@@ -8,7 +7,7 @@ use lib.ListN.{length}
 use Rattle.lists.specs.Filters.{filter}
 use Rattle.tally.specs.declared.Tally.{Tally}
 
--- a count raised by n
+-- a count raised by n; it stays at its largest value (RULES 9.2)
 unfoldable pub raised : ℕ → ℕ → ℕ
 raised a n = cond (ltb 4294967295 (a + n)) 4294967295 (a + n)
 
@@ -19,7 +18,7 @@ tallyOf a b = record { taken = a; refused = b }
 unfoldable pub counted : Tally → ℕ → ℕ → Tally
 counted t n m = record { taken = raised (t .taken) n; refused = raised (t .refused) m }
 
--- a step's result: 0 is taken, every other number a refusal
+-- a step's result: 0 is taken, every other number a refusal, 6 too (RULES 9.3)
 unfoldable pub isTaken : ℕ → Bool
 isTaken result = eqb result 0
 

@@ -1,25 +1,29 @@
 // What the store answered.
-use super::text::count;
-use super::text::say;
-use super::text::word;
+use console::put;
+use console::say;
+use console::tell_one;
+use console::word;
 
-// A phrase for each refusal of a step (01, "Who can cause which refusal"), by its number.
-fn phrase(result: u32) {
+// A phrase for each refusal of a step, by its number (RULES 8.2). 6 and 23 never come from a file (runfile, specs/FileRun).
+fn phrase(page: &mut [u8; 65536], at: usize, result: u32) -> usize {
     word(
-        b";;;;;;the state is ill sized;;;;unknown code;an unnamed byte is not zero;no such task;no such register;no such card;no such function;;;;;the task is not quiet;the task does not ask this or is not done;the copies lie otherwise;no request is left;;;;;;;outbox empty;no broadcast to take;nothing of that task in flight;inbox empty;some card would be too far behind;too many broadcasts in the inbox",
+        page,
+        at,
+        b";;;;;;;;;;unknown code;an unnamed byte is not zero;no such task;no such register;no such card;no such function;;;;;the task is not quiet;the task does not ask this or is not done;the copies lie otherwise;;;;;;;;outbox empty;no broadcast to take;nothing of that task in flight;inbox empty;some card would be too far behind;too many broadcasts in the inbox",
         result,
-    );
+    )
 }
 
-fn show(result: u32) {
+fn refused(page: &mut [u8; 65536], at: usize, result: u32) -> usize {
+    let a = tell_one(page, at, b"refused #: ", result);
+    phrase(page, a, result)
+}
+
+fn show(page: &mut [u8; 65536], at: usize, result: u32) -> usize {
     if result == 0 {
-        say(b"taken");
-        return;
+        return say(page, at, b"taken");
     }
-    say(b"refused ");
-    count(result);
-    say(b": ");
-    phrase(result);
+    refused(page, at, result)
 }
 
 // What each task asked last: the code of its last request taken, so that a report of a read is known from one of an update.
@@ -33,25 +37,36 @@ fn note(requests: &mut [u8; 16], code: u32, task: u32, result: u32) {
     requests[task as usize % 16] = code as u8;
 }
 
-// The value that a taken report of a read gave.
-fn value(requests: &[u8; 16], code: u32, task: u32, result: u32, value: u32) {
+// Whether the step is a taken report of a read.
+fn gave(requests: &[u8; 16], code: u32, task: u32, result: u32) -> bool {
     if result != 0 {
-        return;
+        return false;
     }
     if code != 10 {
-        return;
+        return false;
     }
-    if requests[task as usize % 16] != 1 {
-        return;
-    }
-    say(b", value ");
-    count(value);
+    requests[task as usize % 16] == 1
 }
 
-// What was answered to a step of a task.
-pub(crate) fn tell(requests: &mut [u8; 16], code: u32, task: u32, result: u32, read: u32) {
-    show(result);
-    value(requests, code, task, result, read);
+fn value(page: &mut [u8; 65536], at: usize, given: bool, value: u32) -> usize {
+    if !given {
+        return at;
+    }
+    tell_one(page, at, b", value #", value)
+}
+
+// What was answered to a step of a task, to the end of the line.
+pub(crate) fn finish(
+    page: &mut [u8; 65536],
+    at: usize,
+    requests: &mut [u8; 16],
+    code: u32,
+    task: u32,
+    result: u32,
+    read: u32,
+) -> usize {
+    let a = show(page, at, result);
+    let b = value(page, a, gave(requests, code, task, result), read);
     note(requests, code, task, result);
-    say(b"\n");
+    put(page, b, b'\n')
 }

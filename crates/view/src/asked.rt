@@ -1,52 +1,57 @@
-// What a step asks, in columns of 56 characters.
-use super::text::column;
-use super::text::hex;
-use super::text::left;
-use super::text::number;
-use super::text::pad;
-use super::text::right;
-use super::text::say;
-use super::text::word;
+// What a step asks, in 58 columns.
+use super::number;
+use console::column;
+use console::hex;
+use console::is_empty;
+use console::left;
+use console::pad;
+use console::put;
+use console::right;
+use console::say;
+use console::word;
 use names::placement::byte;
 
 // The step's name, by its code.
-fn name(code: u32) {
+fn name(page: &mut [u8; 65536], at: usize, code: u32) -> usize {
     column(
+        page,
+        at,
         b";request read;request update;perform;send read;send update;dispatch;take broadcast;take single;deliver;report",
         code,
         16,
-    );
+    )
 }
 
 // Byte 0 of the argument: a task or a card.
-fn whose(code: u32, argument: &[u8]) {
-    column(
+fn whose(page: &mut [u8; 65536], at: usize, code: u32, argument: &[u8]) -> usize {
+    let a = column(
+        page,
+        at,
         b";task;task;task;task;task;card;card;task;card;task",
         code,
         5,
     );
-    right(byte(argument, 0), 2);
+    right(page, a, byte(argument, 0), 3)
 }
 
 // Byte 1: the register of a request, or the card that a read is sent to.
-fn which(code: u32, argument: &[u8]) {
-    let long = word(b";  register ;  register ;;  to card  ", code);
-    if long == 0 {
-        pad(0, 13);
-        return;
+fn which(page: &mut [u8; 65536], at: usize, code: u32, argument: &[u8]) -> usize {
+    let names = b";  register ;  register ;;  to card  ";
+    if is_empty(names, code) {
+        return pad(page, at, 0, 14);
     }
-    right(byte(argument, 1), 2);
+    let a = word(page, at, names, code);
+    right(page, a, byte(argument, 1), 3)
 }
 
 // Bytes 2 and 4 to 7: the function of an update and its operand.
-fn change(code: u32, argument: &[u8]) {
+fn change(page: &mut [u8; 65536], at: usize, code: u32, argument: &[u8]) -> usize {
     if code != 2 {
-        pad(0, 20);
-        return;
+        return pad(page, at, 0, 20);
     }
-    say(b"  ");
-    column(b";set;add;larger;or", byte(argument, 2), 7);
-    left(number(argument, 4), 11);
+    let a = say(page, at, b"  ");
+    let b = column(page, a, b";set;add;larger;or", byte(argument, 2), 7);
+    left(page, b, number(argument, 4), 11)
 }
 
 // Whether the bytes can be read as the step of the code: it is known, as is an update's function, and the unnamed bytes are zero.
@@ -66,33 +71,43 @@ fn readable(code: u32, argument: &[u8], result: u32) -> bool {
     byte(argument, 2) < 5
 }
 
-// The code and the argument as they stand in the file.
-fn raw(code: u32, argument: &[u8]) {
-    say(b"bytes ");
-    hex(code);
-    let mut i: usize = 0;
-    while i < argument.len() {
-        say(b" ");
-        hex(byte(argument, i));
-        i += 1;
-    }
-    pad(32, 56);
+fn one_raw(page: &mut [u8; 65536], at: usize, byte: u32) -> usize {
+    let a = put(page, at, b' ');
+    hex(page, a, byte)
 }
 
-fn put(code: u32, argument: &[u8]) {
-    name(code);
-    whose(code, argument);
-    which(code, argument);
-    change(code, argument);
+// The code and the argument as they stand in the file.
+fn raw(page: &mut [u8; 65536], at: usize, code: u32, argument: &[u8]) -> usize {
+    let a = say(page, at, b"bytes");
+    let mut next = one_raw(page, a, code);
+    let mut i: usize = 0;
+    while i < argument.len() {
+        next = one_raw(page, next, byte(argument, i));
+        i += 1;
+    }
+    pad(page, next, 32, 58)
+}
+
+fn read(page: &mut [u8; 65536], at: usize, code: u32, argument: &[u8]) -> usize {
+    let a = name(page, at, code);
+    let b = whose(page, a, code, argument);
+    let c = which(page, b, code, argument);
+    change(page, c, code, argument)
 }
 
 // Step k.
-pub(crate) fn show(k: u32, code: u32, argument: &[u8], result: u32) {
-    right(k, 4);
-    say(b"  ");
+pub(crate) fn show(
+    page: &mut [u8; 65536],
+    at: usize,
+    k: u32,
+    code: u32,
+    argument: &[u8],
+    result: u32,
+) -> usize {
+    let a = right(page, at, k, 4);
+    let b = say(page, a, b"  ");
     if !readable(code, argument, result) {
-        raw(code, argument);
-        return;
+        return raw(page, b, code, argument);
     }
-    put(code, argument);
+    read(page, b, code, argument)
 }

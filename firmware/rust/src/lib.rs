@@ -1,207 +1,99 @@
-//! The proved register store behind safe functions. `rt staticlib firmware` builds the library
-//! that this crate links; nothing checks these declarations against its source, so they are
-//! few, and `tests/rust` compares what they give with an independent model.
+//! A proved register store for firmware, behind safe functions.
+//!
+//! Up to 16 tasks on up to 8 cards read and update up to 32 registers of 32 bits. Each register
+//! is copied to the cards that the user chose; between the cards there is one broadcast in a
+//! common order, and single messages in no order. The store is moved by ten kinds of [`Step`],
+//! in any order that the caller picks, and every run of it is sequentially consistent. That is
+//! proved of the library that this crate links; `docs/RULES.md` in its repository says all that
+//! a caller has to know, and "RULES 4.3" below is a rule there.
+//!
+//! # Example
+//!
+//! ```
+//! use gondzselu::{Condition, Function, Placement, Refusal, Step, Store};
+//!
+//! // Two cards, a task on each. Register 0 lies on both cards; card 0 is its primary.
+//! let mut store = Store::start(Placement {
+//!     cards: 2,
+//!     homes: &[0, 1],
+//!     copies: &[0b11],
+//!     primaries: &[0],
+//! })?;
+//!
+//! // Task 0 adds 5 to the register. Its message becomes broadcast 1, and card 0 delivers it.
+//! store.step(Step::RequestUpdate { task: 0, register: 0, function: Function::Add, operand: 5 })?;
+//! store.step(Step::SendUpdate { task: 0 })?;
+//! store.step(Step::Dispatch { card: 0 })?;
+//! store.step(Step::TakeBroadcast { card: 0 })?;
+//! store.step(Step::Deliver { card: 0 })?;
+//! assert_eq!(store.task(0), Condition::DoneUpdate);
+//! store.step(Step::Report { task: 0 })?;
+//!
+//! // Card 1 has not taken it: nothing is there to deliver, and its copy is still 0.
+//! assert_eq!(store.step(Step::Deliver { card: 1 }), Err(Refusal::InboxEmpty));
+//! assert_eq!((store.copy(0, 0), store.copy(1, 0)), (5, 0));
+//! store.step(Step::TakeBroadcast { card: 1 })?;
+//! store.step(Step::Deliver { card: 1 })?;
+//!
+//! // Task 1 reads its own card's copy.
+//! store.step(Step::RequestRead { task: 1, register: 0 })?;
+//! store.step(Step::Perform { task: 1 })?;
+//! assert_eq!(store.step(Step::Report { task: 1 }), Ok(5));
+//! # Ok::<(), Refusal>(())
+//! ```
+//!
+//! A whole run file is answered by [`answer`].
+//!
+//! # Memory
+//!
+//! A [`Store`] is 25,408 bytes. It holds no pointer and the library keeps nothing elsewhere, so
+//! a clone is a store of its own that goes on from the same state. [`Store::start`] gives one
+//! by value, which may pass over the stack; where the stack is small, put
+//! [`Store::unstarted`] in a `static` or on the heap and [`restart`](Store::restart) it there.
+//! [`answer`] has a store on the stack while it runs. Nothing here allocates.
+//!
+//! # Threads
+//!
+//! A store has one caller at a time: what changes it takes `&mut`. It is [`Send`] and [`Sync`],
+//! so it may go to another thread, and several may read one together. Stores do not touch each
+//! other.
+//!
+//! # Byte order
+//!
+//! Run files and answers are bytes, low byte first, and the same on every machine. The words of
+//! a store ([`Store::words`]) are numbers of the machine; who keeps them as bytes fixes an
+//! order, for instance by [`u32::to_le_bytes`].
+//!
+//! # The library
+//!
+//! It is found when the crate is built: `libgondzselu.a` in the folder that the variable
+//! `GONDZSELU_LIB_DIR` names, or else what `rt staticlib firmware` wrote in the repository
+//! (`target/staticlib/libfirmware.a`, the same library under the name that it is built by). Its
+//! version and the sizes of its memories are checked whenever a store is started or a file
+//! answered ([`check_library`]).
 
-/// The memories of a store, in words.
-pub const REGISTERS_WORDS: usize = 1544;
-pub const CHANNEL_WORDS: usize = 4808;
+#![no_std]
+#![deny(missing_docs, unsafe_code)]
+#![deny(clippy::undocumented_unsafe_blocks)]
 
-extern "C" {
-    fn gondzselu_answer_counted(
-        file: *const u8,
-        file_length: usize,
-        output: *mut u8,
-        output_length: usize,
-        tally: *mut Tally,
-    ) -> u8;
-    fn gondzselu_answer(
-        file: *const u8,
-        file_length: usize,
-        output: *mut u8,
-        output_length: usize,
-    ) -> u8;
-    fn gondzselu_start(
-        registers: *mut u32,
-        channel: *mut u32,
-        cards: u32,
-        homes: *const u8,
-        homes_length: usize,
-        copies: *const u8,
-        copies_length: usize,
-        primaries: *const u8,
-        primaries_length: usize,
-    ) -> u8;
-    fn gondzselu_start_file(
-        registers: *mut u32,
-        channel: *mut u32,
-        file: *const u8,
-        file_length: usize,
-    ) -> u8;
-    fn gondzselu_step(
-        registers: *mut u32,
-        channel: *mut u32,
-        code: u8,
-        argument: *const u8,
-        value: *mut u32,
-    ) -> u8;
-    fn gondzselu_copy(registers: *const u32, channel: *const u32, card: u32, register: u32) -> u32;
-    fn gondzselu_task(registers: *const u32, channel: *const u32, task: u32) -> u32;
-    fn gondzselu_task_value(registers: *const u32, channel: *const u32, task: u32) -> u32;
-    fn gondzselu_broadcasts(channel: *const u32) -> u32;
-    fn gondzselu_broadcasts_taken(channel: *const u32, card: u32) -> u32;
-    fn gondzselu_requests(registers: *const u32) -> u32;
-}
+mod condition;
+mod library;
+mod limits;
+mod raw;
+mod refusal;
+mod run;
+mod step;
+mod store;
 
-/// Answers a run file into a lent output: 0, or 1 to 5 with the output as it was.
-pub fn answer(file: &[u8], output: &mut [u8]) -> u8 {
-    // The lengths are those of the slices; a `&mut` overlaps nothing.
-    unsafe { gondzselu_answer(file.as_ptr(), file.len(), output.as_mut_ptr(), output.len()) }
-}
+pub use condition::Condition;
+pub use library::{check_library, version, OtherLibrary, VERSION};
+pub use limits::*;
+pub use refusal::Refusal;
+pub use run::{answer, answer_counted, Tally};
+pub use step::{Function, Step};
+pub use store::{Placement, Store};
 
-/// Steps taken and steps refused; each count stays at its largest value once there.
-#[derive(Clone, Copy, Debug, Default, PartialEq, Eq)]
-#[repr(C)]
-pub struct Tally {
-    pub taken: u32,
-    pub refused: u32,
-}
-
-/// The same as `answer`, with the run's steps counted. A refusal leaves the tally alone.
-pub fn answer_counted(file: &[u8], output: &mut [u8], tally: &mut Tally) -> u8 {
-    // As in `answer`; a tally has the layout that the library takes.
-    unsafe {
-        gondzselu_answer_counted(
-            file.as_ptr(),
-            file.len(),
-            output.as_mut_ptr(),
-            output.len(),
-            tally,
-        )
-    }
-}
-
-/// Where copies lie: the home card of each task; for each register the cards that hold a copy
-/// (bit i for card i) and its primary card.
-#[derive(Clone, Copy, Debug)]
-pub struct Placement<'a> {
-    pub cards: u32,
-    pub homes: &'a [u8],
-    pub copies: &'a [u8],
-    pub primaries: &'a [u8],
-}
-
-/// What a task is doing.
-#[derive(Clone, Copy, Debug, PartialEq, Eq)]
-pub enum Doing {
-    Quiet,
-    AskingRead,
-    /// With the operand.
-    AskingUpdate(u32),
-    Waiting,
-    /// With the value read.
-    DoneRead(u32),
-    DoneUpdate,
-}
-
-/// A store in its two memories. Any words are safe: a store that is not well sized refuses
-/// every step with 6.
-#[derive(Clone, Debug, PartialEq, Eq)]
-pub struct Store {
-    pub registers: [u32; REGISTERS_WORDS],
-    pub channel: [u32; CHANNEL_WORDS],
-}
-
-impl Store {
-    /// A store begun from a placement, or the refusal, 3 or 4.
-    pub fn start(placement: Placement) -> Result<Store, u8> {
-        let mut store = Store {
-            registers: [0; REGISTERS_WORDS],
-            channel: [0; CHANNEL_WORDS],
-        };
-        match store.restart(placement) {
-            0 => Ok(store),
-            refusal => Err(refusal),
-        }
-    }
-
-    /// Begins a store in these memories: 0, or 3 or 4 with both as they were.
-    pub fn restart(&mut self, placement: Placement) -> u8 {
-        let Placement {
-            cards,
-            homes,
-            copies,
-            primaries,
-        } = placement;
-        // The memories have the sizes that the library takes, and lengths are the slices'.
-        unsafe {
-            gondzselu_start(
-                self.registers.as_mut_ptr(),
-                self.channel.as_mut_ptr(),
-                cards,
-                homes.as_ptr(),
-                homes.len(),
-                copies.as_ptr(),
-                copies.len(),
-                primaries.as_ptr(),
-                primaries.len(),
-            )
-        }
-    }
-
-    /// The same from the placement in a run file: 0, or 1 to 4 with both as they were.
-    pub fn restart_from_file(&mut self, file: &[u8]) -> u8 {
-        let (registers, channel) = (self.registers.as_mut_ptr(), self.channel.as_mut_ptr());
-        unsafe { gondzselu_start_file(registers, channel, file.as_ptr(), file.len()) }
-    }
-
-    /// A step: its result, 0 or the refusal, and its value.
-    pub fn step(&mut self, code: u8, argument: [u8; 8]) -> (u8, u32) {
-        let mut value = 0;
-        let (registers, channel) = (self.registers.as_mut_ptr(), self.channel.as_mut_ptr());
-        let result =
-            unsafe { gondzselu_step(registers, channel, code, argument.as_ptr(), &mut value) };
-        (result, value)
-    }
-
-    /// The value of a card's copy of a register; 0 for an absent card or register.
-    pub fn copy(&self, card: u32, register: u32) -> u32 {
-        unsafe {
-            gondzselu_copy(
-                self.registers.as_ptr(),
-                self.channel.as_ptr(),
-                card,
-                register,
-            )
-        }
-    }
-
-    /// What a task is doing; an absent task is quiet.
-    pub fn task(&self, task: u32) -> Doing {
-        let (registers, channel) = (self.registers.as_ptr(), self.channel.as_ptr());
-        let kind = unsafe { gondzselu_task(registers, channel, task) };
-        let value = unsafe { gondzselu_task_value(registers, channel, task) };
-        match kind {
-            0 => Doing::Quiet,
-            1 => Doing::AskingRead,
-            2 => Doing::AskingUpdate(value),
-            3 => Doing::Waiting,
-            4 => Doing::DoneRead(value),
-            _ => Doing::DoneUpdate,
-        }
-    }
-
-    /// Broadcasts made.
-    pub fn broadcasts(&self) -> u32 {
-        unsafe { gondzselu_broadcasts(self.channel.as_ptr()) }
-    }
-
-    /// Broadcasts that a card has taken; 0 for an absent card.
-    pub fn broadcasts_taken(&self, card: u32) -> u32 {
-        unsafe { gondzselu_broadcasts_taken(self.channel.as_ptr(), card) }
-    }
-
-    /// Requests taken.
-    pub fn requests(&self) -> u32 {
-        unsafe { gondzselu_requests(self.registers.as_ptr()) }
-    }
-}
+/// The examples of the README are run with the tests.
+#[cfg(doctest)]
+#[doc = include_str!("../README.md")]
+struct Readme;

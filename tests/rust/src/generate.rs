@@ -85,6 +85,11 @@ pub fn file_of(kind: Kind, random: &mut Random) -> Vec<u8> {
     .write()
 }
 
+/// As long as a file can be (RULES 3.2): every size at its most.
+pub fn longest(random: &mut Random) -> Vec<u8> {
+    scenes::longest(random).write()
+}
+
 /// How many steps: none, the most, and anything between, mostly few.
 fn length(random: &mut Random) -> usize {
     match random.between(0, 99) {

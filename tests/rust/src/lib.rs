@@ -1,11 +1,13 @@
-//! An independent model of document 01 in plain Rust, run files to try it on,
-//! and what is needed to compare the proved store with it.
+//! An independent model of the store in plain Rust, written from docs/RULES.md, run files to try
+//! it on, and what is needed to compare the proved store with it.
 //!
-//! `model` holds the rules, `named` the runs K1 to K13, `generate` makes files from a seed,
-//! `stored` has the files that are kept, `statistics` tells what files contain, `selfcheck` and
-//! `consistency` try the model itself, and `library` compares the store with it.
+//! `model` holds the rules, `named` the runs K1 to K13, `steps` the ten steps as bytes, `generate`
+//! makes files from a seed, `statistics` tells what files contain and what they must reach,
+//! `stored` and `view` have the files that the tree keeps (`folder`), `selfcheck` and `consistency`
+//! try the model itself, and `library` compares the store with it.
 
 pub mod consistency;
+pub mod folder;
 pub mod generate;
 #[cfg(feature = "library")]
 pub mod library;
@@ -14,4 +16,6 @@ pub mod named;
 pub mod random;
 pub mod selfcheck;
 pub mod statistics;
+pub mod steps;
 pub mod stored;
+pub mod view;

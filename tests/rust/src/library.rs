@@ -1,19 +1,26 @@
 //! The proved store, linked as a static library (feature `library`), against the model: whole
 //! files, the same steps one by one, what a panel reads, and states made by hand.
 
+mod c;
+mod calls;
 pub mod memory;
 pub mod states;
 mod stretch;
+mod wild;
 pub mod words;
 
-use gondzselu::{Doing, Store, Tally};
+use gondzselu::{Condition, Refusal, Store, Tally};
 
 use crate::model::files::{answer_file, answer_into, program_output, Run};
 use crate::model::placement::Placement;
 use crate::model::{tally, Request, State, Task};
 use crate::named;
 use crate::random::Random;
+use calls::Calls;
 use memory::shown;
+
+/// Version 0.1.0.
+const VERSION: u32 = 1_000;
 
 /// What lies in a lent output before.
 const FILL: u8 = 0xA5;
@@ -38,12 +45,16 @@ fn compare_lent(file: &[u8], lent: usize, begun: Tally) -> Result<(), String> {
         refused: begun.refused,
     };
     let refusal = answer_into(file, &mut wanted, &mut wanted_tally);
-    let results = (
+    let expected = match Refusal::from_number(refusal) {
+        None => Ok(2 + 5 * u16::from_le_bytes([file[3], file[4]]) as usize),
+        Some(refusal) => Err(refusal),
+    };
+    let results = [
         gondzselu::answer(file, &mut output),
         gondzselu::answer_counted(file, &mut counted, &mut tally),
-    );
-    if results != (refusal, refusal) {
-        return Err(format!("{lent} bytes lent: {results:?}, not {refusal}"));
+    ];
+    if results != [expected; 2] {
+        return Err(format!("{lent} bytes lent: {results:?}, not {expected:?}"));
     }
     for output in [output, counted] {
         if let Some(at) = (0..lent).find(|&i| output[i] != wanted[i]) {
@@ -61,120 +72,144 @@ fn compare_lent(file: &[u8], lent: usize, begun: Tally) -> Result<(), String> {
     Ok(())
 }
 
-/// A store begun from a placement of the model.
-fn start(placement: &Placement) -> Result<Store, u8> {
-    let copies: Vec<u8> = placement
-        .registers
-        .iter()
-        .map(|place| place.holders)
-        .collect();
-    let primaries: Vec<u8> = placement
-        .registers
-        .iter()
-        .map(|place| place.primary)
-        .collect();
-    Store::start(gondzselu::Placement {
-        cards: placement.cards as u32,
+/// A store begun from a placement of the model. The same on 256 or more cards besides is refused:
+/// only C can ask for so many.
+fn start(placement: &Placement) -> Result<Store, String> {
+    let places = placement.registers.iter();
+    let (copies, primaries): (Vec<u8>, Vec<u8>) =
+        places.map(|place| (place.holders, place.primary)).unzip();
+    let mut store = Store::start(gondzselu::Placement {
+        cards: placement.cards,
         homes: &placement.home,
         copies: &copies,
         primaries: &primaries,
     })
+    .map_err(|refusal| format!("start: {refusal}"))?;
+    let begun = store.clone();
+    for cards in [256, 1 << 31].map(|more| more + placement.cards as u32) {
+        let refusal = c::start(&mut store, cards, &placement.home, &copies, &primaries);
+        if refusal != 3 || store != begun {
+            return Err(format!("start on {cards} cards: {refusal}"));
+        }
+    }
+    Ok(store)
 }
 
-/// Compares the steps of one file taken one by one, each of them checked: results, values, what
-/// the memories show (at some steps and the last), and that a refused step changes no word.
+/// Compares the steps of one file taken one by one, by every call that takes a step, each of
+/// them checked: results, values, tally, what the memories show (at some steps and the last), and
+/// that a refused step changes no word.
 pub fn compare_steps(file: &[u8], random: &mut Random) -> Result<(), String> {
-    let mut begun = Store {
-        registers: [random.bits() as u32; gondzselu::REGISTERS_WORDS],
-        channel: [random.bits() as u32; gondzselu::CHANNEL_WORDS],
-    };
+    let mut begun = Store::from_words(
+        &[random.bits() as u32; gondzselu::REGISTERS_WORDS],
+        &[random.bits() as u32; gondzselu::CHANNEL_WORDS],
+    );
     let before = begun.clone();
-    let number = begun.restart_from_file(file);
+    let answer = begun.restart_from_file(file);
+    let number = answer.map_or_else(Refusal::number, |()| 0);
     let run = match Run::read(file) {
         Ok(run) => run,
         Err(refusal) if number == refusal && begun == before => return Ok(()),
         Err(refusal) => return Err(format!("start from the file: {number}, not {refusal}")),
     };
     let mut state = State::start(run.placement.clone()).expect("an accepted placement");
-    let mut store = start(&run.placement).map_err(|n| format!("start refused with {n}"))?;
+    let store = start(&run.placement)?;
     if number != 0 || begun != store {
         return Err(format!("start from the file: {number}, or another store"));
     }
+    let mut calls = Calls::new(store, random.bits());
     for (number, &(code, argument)) in run.steps.iter().enumerate() {
         let look = number + 1 == run.steps.len() || random.percent(5);
-        step(&mut state, &mut store, code, argument, look)
+        step(&mut state, &mut calls, code, argument, look)
             .map_err(|words| format!("step {number}: {words}"))?;
     }
-    compare_panel(&state, &store)
+    compare_panel(&state, calls.store())
 }
 
-/// Takes a step with both and compares.
+/// Takes a step with all and compares.
 fn step(
     state: &mut State,
-    store: &mut Store,
+    calls: &mut Calls,
     code: u8,
     argument: [u8; 8],
     look: bool,
 ) -> Result<(), String> {
-    let before = look.then(|| store.clone());
+    let before = look.then(|| calls.store().clone());
     let expected = state.step_reached(code, argument);
-    let answer = store.step(code, argument);
-    if answer != expected {
-        return Err(format!("{answer:?}, not {expected:?}"));
-    }
-    if expected.0 != 0 && before.is_some_and(|before| before != *store) {
+    calls.step(code, argument, expected)?;
+    if expected.0 != 0 && before.is_some_and(|before| before != *calls.store()) {
         return Err("a refused step changes a word".into());
     }
-    if look && shown(store) != *state {
+    if look && shown(calls.store()) != *state {
         return Err("the memories show another state".into());
+    }
+    if look {
+        calls.same()?;
     }
     Ok(())
 }
 
-/// Compares what a panel reads, of absent cards, tasks and registers too.
-pub fn compare_panel(state: &State, store: &Store) -> Result<(), String> {
-    let same = |what: &str, found: u32, wanted: u32| match found == wanted {
+fn same(what: &str, found: u32, wanted: u32) -> Result<(), String> {
+    match found == wanted {
         true => Ok(()),
         false => Err(format!("{what}: {found}, not {wanted}")),
-    };
+    }
+}
+
+/// Compares what a panel reads, of absent cards, tasks and registers too.
+pub fn compare_panel(state: &State, store: &Store) -> Result<(), String> {
     same("requests", store.requests(), state.requests)?;
     same("broadcasts", store.broadcasts(), state.channel.made)?;
-    let (cards, registers) = (
-        state.placement.cards as usize,
-        state.placement.registers.len(),
-    );
+    let (cards, registers) = (state.placement.cards, state.placement.registers.len());
     for card in 0..9 {
-        let taken = state.channel.taken.get(card).copied().unwrap_or(0);
-        same("taken", store.broadcasts_taken(card as u32), taken)?;
+        let taken = state.channel.taken.get(card as usize).copied().unwrap_or(0);
+        same("taken", store.broadcasts_taken(card), taken)?;
         for register in 0..33 {
-            let present = card < cards && register < registers;
+            let present = card < cards && (register as usize) < registers;
             let value = if present {
-                state.copy(card, register)
+                state.copy(card as usize, register as usize)
             } else {
                 0
             };
-            same("copy", store.copy(card as u32, register as u32), value)?;
+            same("copy", store.copy(card, register), value)?;
         }
     }
     for task in 0..17 {
         let found = store.task(task);
         let fits = match state.tasks.get(task as usize).unwrap_or(&Task::Quiet) {
-            Task::Quiet => found == Doing::Quiet,
-            Task::Asking(Request::Read { .. }) => found == Doing::AskingRead,
-            Task::Asking(Request::Update { operand, .. }) => found == Doing::AskingUpdate(*operand),
-            Task::Waiting => found == Doing::Waiting,
-            Task::Done(0) => found == Doing::DoneRead(0) || found == Doing::DoneUpdate,
-            Task::Done(value) => found == Doing::DoneRead(*value),
+            Task::Quiet => found == Condition::Quiet,
+            Task::Asking(Request::Read { .. }) => found == Condition::AskingRead,
+            Task::Asking(Request::Update { operand, .. }) => {
+                found == Condition::AskingUpdate(*operand)
+            }
+            Task::Waiting => found == Condition::Waiting,
+            Task::Done(0) => found == Condition::DoneRead(0) || found == Condition::DoneUpdate,
+            Task::Done(value) => found == Condition::DoneRead(*value),
         };
         if !fits {
             return Err(format!("task {task}: {found:?}"));
         }
+        let numbers = c::task(store, task as u32);
+        if numbers != (found.number() as u32, found.value()) {
+            return Err(format!("task {task}: {found:?}, and {numbers:?}"));
+        }
+    }
+    // Numbers that only C can give: all absent.
+    for far in [255, 256, 65_536, 1 << 31, u32::MAX] {
+        same("taken far", c::broadcasts_taken(store, far), 0)?;
+        same("copy far", c::copy(store, far, 0), 0)?;
+        same("far copy", c::copy(store, 0, far), 0)?;
+        let (kind, value) = c::task(store, far);
+        same("task far", kind, 0)?;
+        same("its value", value, 0)?;
     }
     Ok(())
 }
 
-/// K1 to K13, and a tally that is nearly full.
+/// The version, K1 to K13, and a tally that is nearly full.
 pub fn compare_named() -> Result<(), String> {
+    for version in [c::version(), gondzselu::version(), gondzselu::VERSION] {
+        same("version", version, VERSION)?;
+    }
     for run in named::runs() {
         compare(&run.file).map_err(|words| format!("{}: {words}", run.name))?;
         let full = Tally {
@@ -185,18 +220,17 @@ pub fn compare_named() -> Result<(), String> {
         compare_lent(&run.file, length, full)?;
     }
     let k13 = named::k13();
-    let mut store = start(&k13.start).map_err(|n| format!("K13 start refused with {n}"))?;
+    let mut calls = Calls::new(start(&k13.start)?, 13);
     for number in 1..=k13.times {
         for (code, argument) in k13.round {
-            let answer = store.step(code, argument);
-            if answer != (0, 0) {
-                return Err(format!("K13, round {number}, code {code}: {answer:?}"));
-            }
+            calls
+                .step(code, argument, (0, 0))
+                .map_err(|words| format!("K13, round {number}, code {code}: {words}"))?;
         }
     }
     let (code, argument) = k13.round[0];
-    match store.step(code, argument) {
-        (result, 0) if result == k13.refusal => Ok(()),
-        answer => Err(format!("K13, the last step: {answer:?}")),
-    }
+    calls
+        .step(code, argument, (k13.refusal, 0))
+        .and_then(|()| calls.same())
+        .map_err(|words| format!("K13, the last step: {words}"))
 }

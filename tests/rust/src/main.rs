@@ -3,6 +3,7 @@
 use std::path::Path;
 use std::process::ExitCode;
 
+use gondzselu_model::folder;
 use gondzselu_model::generate::{self, Kind};
 #[cfg(feature = "library")]
 use gondzselu_model::library;
@@ -10,25 +11,34 @@ use gondzselu_model::model::files::{program_output, RawStep, Run};
 use gondzselu_model::named;
 use gondzselu_model::random::Random;
 use gondzselu_model::selfcheck::{check, Checked};
-use gondzselu_model::statistics::Statistics;
+use gondzselu_model::statistics::{self, Statistics};
 use gondzselu_model::stored;
+use gondzselu_model::view::{cases, view};
 
 const USAGE: &str = "compare names                    K1 to K13: name, file and answer in hex
+compare view FILE                a run file and its answers in words
 compare generate SEED COUNT DIR  writes run files and the model's answers
 compare stored DIR               writes the runs that crates/runs keeps, with the model's answers
+compare views DIR                writes the runs that crates/view keeps, with what view prints
 compare statistics SEED COUNT    what generated files contain
 compare self SEED COUNT          checks the model against itself
 compare library SEED COUNT       compares the library on files (feature library)
 compare steps SEED COUNT         the same, step by step, with what the memories show
-compare states SEED COUNT        compares it on states made by hand, and on K1 to K13";
+compare states SEED COUNT        compares it on states made by hand, and on K1 to K13
+
+From COUNT 1,000 on, each also fails where the files miss something that they must reach: a
+refusal, a code or function taken, a kind of message delivered, a value, a size at its least or
+most, a limit; and from 10,000 on, where the states are all of one sort or miss a result.";
 
 fn main() -> ExitCode {
     let words: Vec<String> = std::env::args().skip(1).collect();
     let words: Vec<&str> = words.iter().map(String::as_str).collect();
     let result = match words[..] {
         ["names"] => names(),
+        ["view", file] => show(Path::new(file)),
         ["generate", seed, count, directory] => write(seed, count, Path::new(directory)),
-        ["stored", directory] => stored(Path::new(directory)),
+        ["stored", directory] => folder::write(Path::new(directory), &stored::files()),
+        ["views", directory] => folder::write(Path::new(directory), &cases::files()),
         ["statistics", seed, count] => each(seed, count, |_, _| Ok(())),
         ["self", seed, count] => self_checks(seed, count),
         #[cfg(feature = "library")]
@@ -39,12 +49,12 @@ fn main() -> ExitCode {
         }),
         #[cfg(feature = "library")]
         ["states", seed, count] => states(seed, count),
-        _ => Err(USAGE.into()),
+        _ => Err(format!("what?\n{USAGE}")),
     };
     match result {
         Ok(()) => ExitCode::SUCCESS,
         Err(words) => {
-            eprintln!("{words}");
+            eprintln!("compare: {words}");
             ExitCode::FAILURE
         }
     }
@@ -81,16 +91,19 @@ fn names() -> Result<(), String> {
     Ok(())
 }
 
-/// Does something with each file of a seed and prints the statistics.
+fn show(path: &Path) -> Result<(), String> {
+    let file = std::fs::read(path).map_err(|error| format!("{}: {error}", path.display()))?;
+    print!("{}", view(&file));
+    Ok(())
+}
+
+/// Does something with each file of a seed, prints the statistics, and fails where so many files
+/// must have reached more.
 fn each(
     seed: &str,
     count: &str,
     mut action: impl FnMut(u64, &[u8]) -> Result<(), String>,
 ) -> Result<(), String> {
-    let number = |word: &str| {
-        word.parse::<u64>()
-            .map_err(|_| format!("no number: {word}"))
-    };
     let (seed, count) = (number(seed)?, number(count)?);
     let mut statistics = Statistics::default();
     for item in 0..count {
@@ -100,30 +113,20 @@ fn each(
             .map_err(|words| format!("seed {seed} item {item} ({kind:?}): {words}"))?;
     }
     println!("{statistics}");
-    Ok(())
-}
-
-/// Writes a file as `NAME.run` and what the program is to write for it as `NAME.answer`.
-fn write_pair(directory: &Path, name: &str, file: &[u8]) -> Result<(), String> {
-    let put = |ending: &str, bytes: &[u8]| {
-        let path = directory.join(format!("{name}.{ending}"));
-        std::fs::write(path, bytes).map_err(|error| error.to_string())
-    };
-    put("run", file)?;
-    put("answer", &program_output(file))
-}
-
-fn stored(directory: &Path) -> Result<(), String> {
-    std::fs::create_dir_all(directory).map_err(|error| error.to_string())?;
-    let mut runs = stored::runs().into_iter();
-    runs.try_for_each(|run| write_pair(directory, run.name, &run.file))
+    match count < statistics::FILES {
+        true => Ok(()),
+        false => statistics::none_missing(statistics.missing()),
+    }
 }
 
 /// Writes each file as `N.run` and its answer as `N.answer`.
 fn write(seed: &str, count: &str, directory: &Path) -> Result<(), String> {
-    std::fs::create_dir_all(directory).map_err(|error| error.to_string())?;
     each(seed, count, |item, file| {
-        write_pair(directory, &format!("{item:06}"), file)
+        let pair = [
+            (format!("{item:06}.run"), file.to_vec()),
+            (format!("{item:06}.answer"), program_output(file)),
+        ];
+        folder::write(directory, &pair)
     })
 }
 
@@ -161,8 +164,13 @@ fn states(seed: &str, count: &str) -> Result<(), String> {
         "{} states, {} of them ill-sized; steps of the others by result",
         compared.states, compared.ill_sized
     );
-    for (result, count) in compared.results {
+    for (result, count) in &compared.results {
         println!("  {result:>3} {count:>9}");
     }
-    Ok(())
+    let mut missing = statistics::by_hand(compared.states, compared.ill_sized, &compared.results);
+    missing.extend(statistics::faults(&compared.faults));
+    match count < statistics::STATES {
+        true => Ok(()),
+        false => statistics::none_missing(missing),
+    }
 }

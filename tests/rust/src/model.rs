@@ -1,5 +1,5 @@
-//! The state of the store and its ten steps, written from document 01 alone.
-//! Quoted comments are its sentences.
+//! The state of the store and its ten steps, written from docs/RULES.md alone, whose numbers the
+//! comments cite.
 //!
 //! A step is first judged without touching the state (`decode`, then `judge`)
 //! and then taken (`take`), so a refused step plainly changes nothing.
@@ -16,16 +16,16 @@ use channel::{Body, Channel, Message};
 use placement::Placement;
 use step::Step;
 
-/// Numbers from 0. A set of cards is a byte, "bit i set where card i" belongs.
+/// Numbers from 0 (RULES 1.3). A set of cards is a byte (1.5).
 pub type Card = usize;
 pub type Register = usize;
 pub type TaskNumber = usize;
 pub type Cards = u8;
 
-/// A number of document 01's list of refusals.
+/// A number of the table in RULES 8.2.
 pub type Refusal = u8;
 
-/// "taken requests end at 65,535".
+/// The most requests that are taken (RULES 7.8).
 pub const REQUESTS: u32 = 65_535;
 
 pub fn only(card: Card) -> Cards {
@@ -60,7 +60,7 @@ pub enum Task {
 #[derive(Clone, Debug, PartialEq, Eq)]
 pub struct State {
     pub placement: Placement,
-    /// "In the state the copies lie card after card."
+    /// Card after card (RULES 11.8, where each card has room for 32 of them).
     pub copies: Vec<u32>,
     pub tasks: Vec<Task>,
     /// Requests taken, of all tasks together.
@@ -68,7 +68,7 @@ pub struct State {
     pub channel: Channel,
 }
 
-/// "1 gives w; 2 gives v + w modulo 4,294,967,296; 3 gives the larger; 4 gives the bitwise or."
+/// RULES 2.1 to 2.4: the value v of a copy after an update with operand w.
 pub fn apply(function: u8, v: u32, w: u32) -> u32 {
     match function {
         1 => w,
@@ -80,7 +80,7 @@ pub fn apply(function: u8, v: u32, w: u32) -> u32 {
 }
 
 impl State {
-    /// "A start made from a placement without a file meets 3, then 4, and no state is begun."
+    /// RULES 10.2 and 10.3.
     pub fn start(placement: Placement) -> Result<State, Refusal> {
         placement.judge()?;
         let cards = placement.cards as usize;
@@ -94,8 +94,8 @@ impl State {
         })
     }
 
-    /// One step on any state: "6 for the state, then rising number, then 6 for the outcome".
-    /// Gives the result (0 taken, else the refusal) and the value.
+    /// One step on any state, refused in the order of RULES 8.5. Gives the result (0 taken, else
+    /// the refusal) and the value.
     pub fn step(&mut self, code: u8, argument: [u8; 8]) -> (u8, u32) {
         if !self.well_sized() {
             return (6, 0);
@@ -103,7 +103,7 @@ impl State {
         self.step_reached(code, argument)
     }
 
-    /// The same for a state reached from a start, which is always well sized.
+    /// The same for a state reached from a start, which is always well sized (RULES 8.9).
     pub fn step_reached(&mut self, code: u8, argument: [u8; 8]) -> (u8, u32) {
         match self.allowed(code, argument) {
             Ok(step) => (0, self.take(step)),
@@ -134,7 +134,8 @@ impl State {
         &mut self.copies[card * self.placement.registers.len() + register]
     }
 
-    /// Takes a step that `judge` allowed and gives the value of the answer file.
+    /// Takes a step that `judge` allowed and gives the value of the answer file (RULES 5.1 to
+    /// 5.10, 4.3).
     fn take(&mut self, step: Step) -> u32 {
         match step {
             Step::RequestRead { task, register } => {
@@ -203,8 +204,7 @@ impl State {
         }
     }
 
-    /// "a read message to the chosen holder", "an update message to all holders joins the
-    /// outbox; the task waits."
+    /// RULES 5.4, 5.5: the message joins home's outbox, and the task waits.
     fn send_request(&mut self, task: TaskNumber, to: Cards) {
         let body = Body::Request(self.request(task));
         let home = self.home(task);
@@ -217,14 +217,13 @@ impl State {
         *copy = apply(function, *copy, operand);
     }
 
-    /// The reply that delivering this message on this card sends, if any.
+    /// The reply that delivering this message on this card sends, if any (RULES 5.9).
     fn reply(&self, card: Card, message: &Message) -> Option<Message> {
         let task = message.task;
         let home = self.home(task);
         let value = match message.body {
-            // "Read: a reply to the task's card, with the value, joins this card's outbox."
             Body::Request(Request::Read { register }) => self.copy(card, register),
-            // "if its home holds no copy and this card is primary, a reply joins likewise."
+            // Only the primary replies, and only to a home without a copy.
             Body::Request(Request::Update { register, .. }) => {
                 let place = self.placement.registers[register];
                 if has(place.holders, home) || place.primary as usize != card {
@@ -241,7 +240,7 @@ impl State {
         })
     }
 
-    /// "Deliver the inbox head."
+    /// RULES 5.9.
     fn deliver(&mut self, card: Card) {
         let Some(message) = self.channel.inbox[card].pop_front() else {
             return;
@@ -256,13 +255,11 @@ impl State {
                 function,
                 operand,
             }) => {
-                // "Update: applied; if the task's home is here it is done"
                 self.update(card, register, function, operand);
                 if self.home(message.task) == card {
                     self.tasks[message.task] = Task::Done(0);
                 }
             }
-            // "Reply: the task is done."
             Body::Reply { value } => self.tasks[message.task] = Task::Done(value),
         }
     }

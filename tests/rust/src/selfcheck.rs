@@ -26,7 +26,7 @@ pub fn check(file: &[u8], checked: &mut Checked) -> Result<(), String> {
     let mut answers = Vec::new();
     for (number, &(code, argument)) in run.steps.iter().enumerate() {
         let before = state.clone();
-        // The checked step: "No state reached by calls from a start ever gives 6."
+        // The step with the check of the state, which no run fails (RULES 8.9).
         let (result, value) = state.step(code, argument);
         if result == 6 {
             return Err(format!("step {number} gives 6"));

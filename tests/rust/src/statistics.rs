@@ -1,111 +1,108 @@
-//! What generated runs contain: results by number, refused files, and the longest queues.
+//! What run files contain: refused files, results of steps, sizes, the longest queues, messages and
+//! values. `needed` says what generated files must reach.
+
+mod largest;
+mod needed;
+mod print;
 
 use std::collections::BTreeMap;
-use std::fmt;
 
 use crate::generate::Kind;
-use crate::model::channel::Channel;
+use crate::model::channel::Body;
 use crate::model::files::Run;
-use crate::model::State;
+use crate::model::step::Step;
+use crate::model::{Request, State, Task};
+pub use largest::{Largest, LIMITS};
+pub use needed::{by_hand, faults, none_missing, FILES, STATES};
 
-/// The largest numbers seen. The limit of each stands in document 01.
-#[derive(Clone, Copy, Debug, Default, PartialEq, Eq)]
-pub struct Largest {
-    pub outbox: usize,
-    pub inbox: usize,
-    pub undelivered: usize,
-    pub held: usize,
-    pub behind: u32,
-}
+/// How often each thing came.
+type Counts<T> = BTreeMap<T, usize>;
 
-/// What a run can reach at most.
-pub const LIMITS: Largest = Largest {
-    outbox: 16,
-    inbox: 48,
-    undelivered: 32,
-    held: 16,
-    behind: 64,
-};
-
-impl Largest {
-    /// Looks at the queues of every card.
-    pub fn see(&mut self, channel: &Channel) {
-        for card in 0..channel.taken.len() {
-            let seen = Largest {
-                outbox: channel.outbox[card].len(),
-                inbox: channel.inbox[card].len(),
-                undelivered: channel.undelivered(card),
-                held: channel.held[card].len(),
-                behind: channel.made - channel.taken[card],
-            };
-            self.join(&seen);
-        }
-    }
-
-    fn join(&mut self, other: &Largest) {
-        self.outbox = self.outbox.max(other.outbox);
-        self.inbox = self.inbox.max(other.inbox);
-        self.undelivered = self.undelivered.max(other.undelivered);
-        self.held = self.held.max(other.held);
-        self.behind = self.behind.max(other.behind);
-    }
-
-    /// Which limits are reached: outbox, inbox, undelivered, held, behind.
-    fn reached(&self) -> [bool; 5] {
-        [
-            self.outbox == LIMITS.outbox,
-            self.inbox == LIMITS.inbox,
-            self.undelivered == LIMITS.undelivered,
-            self.held == LIMITS.held,
-            self.behind == LIMITS.behind,
-        ]
-    }
+fn count<T: Ord>(counts: &mut Counts<T>, thing: T) {
+    *counts.entry(thing).or_default() += 1;
 }
 
 #[derive(Clone, Debug, Default)]
 pub struct Statistics {
-    pub kinds: BTreeMap<String, usize>,
-    /// Refused files by refusal; accepted ones by 0.
-    pub files: BTreeMap<u8, usize>,
-    /// Results of steps by number.
-    pub results: BTreeMap<u8, usize>,
-    /// Accepted files by number of steps: none, the most, any.
-    pub empty: usize,
-    pub full: usize,
-    pub steps: usize,
+    pub kinds: Counts<String>,
+    /// Files by refusal; accepted ones by 0.
+    pub files: Counts<u8>,
+    /// Accepted files by number of cards, registers, tasks and steps.
+    pub cards: Counts<usize>,
+    pub registers: Counts<usize>,
+    pub tasks: Counts<usize>,
+    pub lengths: Counts<usize>,
+    /// Steps by result.
+    pub results: Counts<u8>,
+    /// Steps taken by code, and those that ask for an update by function.
+    pub codes: Counts<u8>,
+    pub functions: Counts<u8>,
+    pub delivered: Counts<Delivered>,
+    pub found: Counts<Found>,
     pub largest: Largest,
     /// How many runs reached each limit.
     pub reached: [usize; 5],
 }
 
+/// The four kinds of message (RULES 1.7).
+#[derive(Clone, Copy, Debug, PartialEq, Eq, PartialOrd, Ord)]
+pub enum Delivered {
+    Read,
+    Update,
+    ReadReply,
+    UpdateReply,
+}
+
+/// Where a reported read found its value; only values that are not 0 are counted.
+#[derive(Clone, Copy, Debug, PartialEq, Eq, PartialOrd, Ord)]
+pub enum Found {
+    /// By step 3, in the copy at home.
+    AtHome,
+    /// By step 4, in a reply.
+    InReply,
+}
+
+/// What a task asked for last, and whether that was sent.
+#[derive(Clone, Copy, Debug, Default)]
+struct Asked {
+    read: bool,
+    sent: bool,
+}
+
 impl Statistics {
     /// Adds one file.
     pub fn add(&mut self, kind: Kind, file: &[u8]) {
-        *self.kinds.entry(format!("{kind:?}")).or_default() += 1;
+        count(&mut self.kinds, format!("{kind:?}"));
         let run = Run::read(file);
-        let refusal = run.as_ref().err().copied().unwrap_or(0);
-        *self.files.entry(refusal).or_default() += 1;
+        count(&mut self.files, run.as_ref().err().copied().unwrap_or(0));
         if let Ok(run) = run {
             self.add_run(run);
         }
     }
 
+    pub fn steps(&self) -> usize {
+        self.results.values().sum()
+    }
+
     fn add_run(&mut self, run: Run) {
-        self.empty += run.steps.is_empty() as usize;
-        self.full += (run.steps.len() == 4_096) as usize;
-        self.steps += run.steps.len();
+        let tasks = run.placement.home.len();
+        count(&mut self.cards, run.placement.cards as usize);
+        count(&mut self.registers, run.placement.registers.len());
+        count(&mut self.tasks, tasks);
+        count(&mut self.lengths, run.steps.len());
         let mut state = State::start(run.placement).expect("an accepted placement");
+        let mut asked = vec![Asked::default(); tasks];
         let mut largest = Largest::default();
-        let mut results = [0; 256];
         for (code, argument) in run.steps {
+            if let Ok(step) = state.allowed(code, argument) {
+                count(&mut self.codes, code);
+                self.see(&state, step, &mut asked);
+            }
             let (result, _) = state.step_reached(code, argument);
-            results[result as usize] += 1;
+            count(&mut self.results, result);
             if result == 0 {
                 largest.see(&state.channel);
             }
-        }
-        for (result, count) in results.into_iter().enumerate().filter(|pair| pair.1 > 0) {
-            *self.results.entry(result as u8).or_default() += count;
         }
         for (total, reached) in self.reached.iter_mut().zip(largest.reached()) {
             *total += reached as usize;
@@ -113,78 +110,48 @@ impl Statistics {
         self.largest.join(&largest);
     }
 
-    /// Refusals 10 to 35 that a file can cause and that never occurred.
-    pub fn missing(&self) -> Vec<u8> {
-        let numbers = (10..=15).chain(20..=22).chain(30..=35);
-        numbers.filter(|n| !self.results.contains_key(n)).collect()
-    }
-}
-
-impl fmt::Display for Statistics {
-    fn fmt(&self, f: &mut fmt::Formatter) -> fmt::Result {
-        let total: usize = self.files.values().sum();
-        writeln!(f, "files {total}, steps {}", self.steps)?;
-        writeln!(
-            f,
-            "  without steps {}, with 4,096 {}",
-            self.empty, self.full
-        )?;
-        writeln!(f, "kinds")?;
-        for (kind, count) in &self.kinds {
-            writeln!(f, "  {kind:<9} {count}")?;
+    /// Looks at a step that is about to be taken.
+    fn see(&mut self, state: &State, step: Step, asked: &mut [Asked]) {
+        match step {
+            Step::RequestRead { task, .. } => {
+                asked[task] = Asked {
+                    read: true,
+                    sent: false,
+                }
+            }
+            Step::RequestUpdate { task, function, .. } => {
+                asked[task] = Asked::default();
+                count(&mut self.functions, function);
+            }
+            Step::SendRead { task, .. } => asked[task].sent = true,
+            Step::Deliver { card } => {
+                let message = state.channel.inbox[card].front().expect("a message");
+                let kind = match message.body {
+                    Body::Request(Request::Read { .. }) => Delivered::Read,
+                    Body::Request(Request::Update { .. }) => Delivered::Update,
+                    // A task has one operation open, which the reply is for.
+                    Body::Reply { .. } if asked[message.task].read => Delivered::ReadReply,
+                    Body::Reply { .. } => Delivered::UpdateReply,
+                };
+                count(&mut self.delivered, kind);
+            }
+            Step::Report { task } if asked[task].read && state.tasks[task] != Task::Done(0) => {
+                let found = match asked[task].sent {
+                    true => Found::InReply,
+                    false => Found::AtHome,
+                };
+                count(&mut self.found, found);
+            }
+            _ => {}
         }
-        writeln!(f, "files by result (0 accepted)")?;
-        for (result, count) in &self.files {
-            writeln!(f, "  {result:>3} {count}")?;
-        }
-        writeln!(f, "steps by result (0 taken)")?;
-        for (result, count) in &self.results {
-            let share = 100.0 * *count as f64 / self.steps as f64;
-            writeln!(f, "  {result:>3} {count:>12} {share:>8.3} %")?;
-        }
-        writeln!(f, "largest, limit, runs that reached it")?;
-        let Largest {
-            outbox,
-            inbox,
-            undelivered,
-            held,
-            behind,
-        } = self.largest;
-        let rows = [
-            ("outbox", outbox, LIMITS.outbox),
-            ("inbox", inbox, LIMITS.inbox),
-            ("of it broadcasts", undelivered, LIMITS.undelivered),
-            ("held", held, LIMITS.held),
-            ("behind", behind as usize, LIMITS.behind as usize),
-        ];
-        for ((name, largest, limit), runs) in rows.into_iter().zip(self.reached) {
-            writeln!(f, "  {name:<16} {largest:>3} {limit:>3} {runs:>8}")?;
-        }
-        write!(f, "refusals that never occurred: {:?}", self.missing())
     }
 }
 
 #[cfg(test)]
 mod tests {
     use super::*;
-    use crate::generate::{file, file_of};
+    use crate::generate::file_of;
     use crate::random::Random;
-
-    #[test]
-    fn every_refusal_and_limit_occurs() {
-        let mut statistics = Statistics::default();
-        for item in 0..400 {
-            let (kind, file) = file(1, item);
-            statistics.add(kind, &file);
-        }
-        assert_eq!(statistics.missing(), []);
-        assert_eq!(statistics.largest, LIMITS);
-        assert!((1..=4).all(|refusal| statistics.files.contains_key(&refusal)));
-        assert!(statistics.empty > 0 && statistics.full > 0);
-        // The rules give neither to a file: 6 needs an ill-sized state, 23 more requests.
-        assert!(!statistics.results.contains_key(&6));
-        assert!(!statistics.results.contains_key(&23));
-    }
 
     fn of_one(kind: Kind, item: u64) -> Statistics {
         let mut statistics = Statistics::default();
@@ -211,9 +178,35 @@ mod tests {
     fn a_full_file_has_everything() {
         for item in 0..50 {
             let statistics = of_one(Kind::Full, item);
-            assert_eq!(statistics.full, 1);
+            assert!(statistics.lengths.contains_key(&4_096));
             assert_eq!(statistics.largest, LIMITS, "{item}");
-            assert_eq!(statistics.missing(), [], "{item}");
+            assert_eq!(statistics.refusals_missing(), [], "{item}");
         }
+    }
+
+    /// K9, K10 and a read at home, counted by hand.
+    #[test]
+    fn messages_and_values_of_named_runs() {
+        let of = |name: &str| {
+            let mut runs = crate::named::runs().into_iter();
+            let run = runs.find(|run| run.name == name).expect("a named run");
+            let mut statistics = Statistics::default();
+            statistics.add(Kind::Guided, &run.file);
+            statistics
+        };
+        let k9 = of("K9");
+        assert_eq!(k9.delivered, Counts::from([(Delivered::Update, 3)]));
+        assert_eq!(k9.found, Counts::from([(Found::AtHome, 1)]));
+        assert_eq!(k9.functions, Counts::from([(1, 2)]));
+        assert_eq!((k9.results[&0], k9.results[&33]), (15, 1));
+        let k10 = of("K10");
+        let delivered = [
+            (Delivered::Read, 1),
+            (Delivered::Update, 2),
+            (Delivered::ReadReply, 1),
+        ];
+        assert_eq!(k10.delivered, Counts::from(delivered));
+        // What task 0 read is 0.
+        assert_eq!(k10.found, Counts::new());
     }
 }

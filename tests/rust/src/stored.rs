@@ -1,11 +1,13 @@
 //! The runs stored in `crates/runs/data`: K11 and K12, a run for each queue at its limit, and files
 //! of 4,096 steps. The answers stored with them are this model's.
 
+use crate::folder::File;
 use crate::generate::{self, Kind};
-use crate::model::files::{RawStep, Run};
+use crate::model::files::{program_output, RawStep, Run};
 use crate::model::placement::Placement;
 use crate::named;
 use crate::random::Random;
+use crate::steps::*;
 
 pub struct Stored {
     pub name: &'static str,
@@ -29,6 +31,17 @@ pub fn runs() -> Vec<Stored> {
     ]
 }
 
+/// The files of the folder: each run file and what the program writes for it.
+pub fn files() -> Vec<File> {
+    let pair = |run: Stored| {
+        [
+            (format!("{}.answer", run.name), program_output(&run.file)),
+            (format!("{}.run", run.name), run.file),
+        ]
+    };
+    runs().into_iter().flat_map(pair).collect()
+}
+
 fn named_file(name: &str) -> Vec<u8> {
     let runs = named::runs().into_iter();
     let mut found = runs.filter(|run| run.name == name);
@@ -46,20 +59,7 @@ fn longest_guided() -> Vec<u8> {
     files.find(longest).expect("there is one")
 }
 
-/// A step whose argument has these first three bytes, the operand in byte 4, and zeros.
-fn step(code: u8, [a, b, c]: [u8; 3], operand: u8) -> RawStep {
-    (code, [a, b, c, 0, operand, 0, 0, 0])
-}
-
-fn simple(code: u8, first: u8) -> RawStep {
-    step(code, [first, 0, 0], 0)
-}
-
-fn set(task: u8, register: u8, value: u8) -> RawStep {
-    step(2, [task, register, 1], value)
-}
-
-/// The step so many times, and once more, when there is nothing left for it.
+/// A card's step so many times, and once more, when there is nothing left for it.
 fn all_and_one(code: u8, card: u8, count: usize) -> Vec<RawStep> {
     vec![simple(code, card); count + 1]
 }
@@ -71,37 +71,40 @@ fn sixteen_tasks(steps: Vec<RawStep>) -> Vec<u8> {
 }
 
 /// Task 0 sets register 0, and card 0 takes and delivers the broadcast.
-fn broadcast(value: u8) -> Vec<RawStep> {
-    let mut steps = vec![set(0, 0, value)];
-    steps.extend([5, 6, 7, 9, 10].map(|code| simple(code, 0)));
-    steps
+fn broadcast(value: u32) -> [RawStep; 6] {
+    [
+        set(0, 0, value),
+        send_update(0),
+        dispatch(0),
+        take_broadcast(0),
+        deliver(0),
+        report(0),
+    ]
 }
 
 /// Task 0 sets register 1: a single message to card 1, and its reply.
-fn single(value: u8) -> Vec<RawStep> {
-    let mut steps = vec![set(0, 1, value)];
-    let codes = [
-        (5, 0),
-        (6, 0),
-        (8, 0),
-        (9, 1),
-        (6, 1),
-        (8, 0),
-        (9, 0),
-        (10, 0),
-    ];
-    steps.extend(codes.map(|(code, first)| simple(code, first)));
-    steps
+fn single(value: u32) -> Vec<RawStep> {
+    vec![
+        set(0, 1, value),
+        send_update(0),
+        dispatch(0),
+        take_single(0),
+        deliver(1),
+        dispatch(1),
+        take_single(0),
+        deliver(0),
+        report(0),
+    ]
 }
 
 /// Every task reads register 1, and its message is taken where it is sent.
 fn reads() -> Vec<RawStep> {
     let read = |task| {
         [
-            step(1, [task, 1, 0], 0),
-            step(4, [task, 1, 0], 0),
-            simple(6, 0),
-            simple(8, task),
+            request_read(task, 1),
+            send_read(task, 1),
+            dispatch(0),
+            take_single(task),
         ]
     };
     (0..16).flat_map(read).collect()
@@ -110,9 +113,9 @@ fn reads() -> Vec<RawStep> {
 /// The sixteen replies that wait in the outbox of card 1 are sent, delivered and reported.
 fn replies() -> Vec<RawStep> {
     let mut steps = all_and_one(6, 1, 16);
-    steps.extend((0..16).map(|task| simple(8, task)));
+    steps.extend((0..16).map(take_single));
     steps.extend(all_and_one(9, 0, 16));
-    steps.extend((0..16).map(|task| simple(10, task)));
+    steps.extend((0..16).map(report));
     steps
 }
 
@@ -120,24 +123,24 @@ fn replies() -> Vec<RawStep> {
 /// refused again.
 fn behind() -> Vec<u8> {
     let mut run = Run::read(&named_file("K11")).expect("an accepted file");
-    run.steps.extend([simple(7, 1), simple(6, 0)]);
-    run.steps.extend([7, 9, 10].map(|code| simple(code, 0)));
+    run.steps.extend([take_broadcast(1), dispatch(0)]);
+    run.steps.extend([take_broadcast(0), deliver(0), report(0)]);
     run.steps
-        .extend([set(0, 0, 66), simple(5, 0), simple(6, 0)]);
+        .extend([set(0, 0, 66), send_update(0), dispatch(0)]);
     run.write()
 }
 
 /// An outbox of 16: every task sends an update before card 0 dispatches. The last one is read.
 fn outbox() -> Vec<u8> {
-    let send = |task| [set(task, 0, task + 1), simple(5, task)];
+    let send = |task: u8| [set(task, 0, task as u32 + 1), send_update(task)];
     let mut steps: Vec<_> = (0..16).flat_map(send).collect();
     steps.extend(all_and_one(6, 0, 16));
     for card in [0, 1] {
         steps.extend(all_and_one(7, card, 16));
         steps.extend(all_and_one(9, card, 16));
     }
-    steps.extend((0..16).map(|task| simple(10, task)));
-    steps.extend([step(1, [0, 0, 0], 0), simple(3, 0), simple(10, 0)]);
+    steps.extend((0..16).map(report));
+    steps.extend([request_read(0, 0), perform(0), report(0)]);
     sixteen_tasks(steps)
 }
 
@@ -158,7 +161,7 @@ fn held() -> Vec<u8> {
     let mut steps = single(9);
     steps.extend(broadcast(7));
     steps.extend(reads());
-    steps.extend([simple(9, 1), simple(7, 1)]);
+    steps.extend([deliver(1), take_broadcast(1)]);
     steps.extend(all_and_one(9, 1, 17));
     steps.extend(replies());
     sixteen_tasks(steps)
@@ -167,8 +170,8 @@ fn held() -> Vec<u8> {
 #[cfg(test)]
 mod tests {
     use super::*;
-    use crate::model::files::program_output;
-    use crate::statistics::{Statistics, LIMITS};
+    use crate::folder;
+    use crate::statistics::{Largest, Statistics, LIMITS};
 
     fn statistics(file: &[u8]) -> Statistics {
         let mut statistics = Statistics::default();
@@ -176,10 +179,10 @@ mod tests {
         statistics
     }
 
-    fn largest(name: &str) -> crate::statistics::Largest {
-        let runs = runs().into_iter();
-        let mut found = runs.filter(|run| run.name == name);
-        statistics(&found.next().expect("a stored run").file).largest
+    fn largest(name: &str) -> Largest {
+        let mut runs = runs().into_iter();
+        let run = runs.find(|run| run.name == name).expect("a stored run");
+        statistics(&run.file).largest
     }
 
     #[test]
@@ -196,19 +199,15 @@ mod tests {
         for item in 0..2 {
             let file = generated(Kind::Full, item);
             let statistics = statistics(&file);
-            assert_eq!(statistics.full, 1);
-            assert_eq!(statistics.missing(), []);
+            assert!(statistics.lengths.contains_key(&4_096));
+            assert_eq!(statistics.refusals_missing(), []);
             assert_eq!(statistics.largest, LIMITS);
         }
     }
 
     #[test]
     fn the_stored_files_are_these() {
-        let data = concat!(env!("CARGO_MANIFEST_DIR"), "/../../crates/runs/data");
-        for run in runs() {
-            let stored = |ending| std::fs::read(format!("{data}/{}.{ending}", run.name)).unwrap();
-            assert_eq!(stored("answer"), program_output(&run.file), "{}", run.name);
-            assert_eq!(stored("run"), run.file, "{}", run.name);
-        }
+        let data = folder::of_tree("crates/runs/data");
+        assert_eq!(folder::compare(&data, &files()), Ok(()));
     }
 }

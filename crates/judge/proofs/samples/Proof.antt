@@ -5,10 +5,10 @@ use Rattle.judge.proofs.samples.Statement.{statement}
 use Rattle.judge.proofs.samples.Tie as tie
 
 abbrev Inv-loop : tie.InvT-loop
-Inv-loop input at₀ t4 at = Unit
+Inv-loop page₀ input next₀ from₀ page next from = Unit
 
 abbrev μ-loop : tie.MeasureT-loop
-μ-loop input at₀ t4 at = length input - at
+μ-loop page₀ input next₀ from₀ page next from = length input - from
 
 loop-holds : tie.Need-loop-holds Inv-loop μ-loop
 loop-holds c = search needs
@@ -28,14 +28,11 @@ part-sample-end c = search needs
 sample-requires : tie.Need-sample-requires Inv-loop μ-loop
 sample-requires c κs = search needs
 
-slice-aggregate-say : tie.Need-slice-aggregate-say Inv-loop μ-loop
-slice-aggregate-say c = search needs
+put-requires : tie.Need-put-requires Inv-loop μ-loop
+put-requires c κs = search needs
 
-say-requires : tie.Need-say-requires Inv-loop μ-loop
-say-requires c κs = search needs
-
-add-at : tie.Need-add-at Inv-loop μ-loop
-add-at c = search needs
+add-from : tie.Need-add-from Inv-loop μ-loop
+add-from c = search needs
 
 loop-less : tie.Need-loop-less Inv-loop μ-loop
 loop-less c = search needs
@@ -58,9 +55,8 @@ samples-spec =
     part-sample-start
     part-sample-end
     sample-requires
-    slice-aggregate-say
-    say-requires
-    add-at
+    put-requires
+    add-from
     loop-less
     loop-again
     returns)

@@ -4,19 +4,16 @@ use Rattle.view.proofs.steps.Statement.{statement}
 use Rattle.view.proofs.steps.Tie as tie
 
 abbrev Inv-loop : tie.InvT-loop
-Inv-loop file out n requests₀ k₀ requests k = Unit
+Inv-loop page₀ at file out n next₀ requests₀ k₀ page next requests k = Unit
 
 abbrev μ-loop : tie.MeasureT-loop
-μ-loop file out n requests₀ k₀ requests k = n - k
+μ-loop page₀ at file out n next₀ requests₀ k₀ page next requests k = n - k
 
 returns : tie.Need-returns Inv-loop μ-loop
 returns c = search needs
 
-slice-aggregate-say : tie.Need-slice-aggregate-say Inv-loop μ-loop
-slice-aggregate-say c = search needs
-
-say-requires : tie.Need-say-requires Inv-loop μ-loop
-say-requires c κs = search needs
+put-requires : tie.Need-put-requires Inv-loop μ-loop
+put-requires c κs = search needs
 
 loop-holds : tie.Need-loop-holds Inv-loop μ-loop
 loop-holds c = search needs
@@ -43,8 +40,7 @@ steps-spec =
     Inv-loop
     μ-loop
     returns
-    slice-aggregate-say
-    say-requires
+    put-requires
     loop-holds
     step-requires
     add-k

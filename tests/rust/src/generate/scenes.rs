@@ -1,4 +1,5 @@
-//! Guided runs with an aim: each limit of document 01 is reached from a placement made for it.
+//! Guided runs with an aim: each limit of RULES 7 that a run can meet is reached from a placement
+//! made for it.
 
 use super::guide::{Mood, Script};
 use super::{any_placement, length, placement};
@@ -10,6 +11,12 @@ pub fn guided(random: &mut Random) -> Run {
     let placement = any_placement(random);
     let most = length(random);
     Script::new(placement, most).finish(random)
+}
+
+/// Every size at its most.
+pub fn longest(random: &mut Random) -> Run {
+    let placement = placement(random, 8, 32, 16);
+    Script::new(placement, 4_096).finish(random)
 }
 
 /// The home of task 0 is late: for a while it takes nothing and its tasks only read, then it

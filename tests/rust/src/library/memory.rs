@@ -1,7 +1,7 @@
 //! A state of the model in the store's two memories, word by word, and back. Where things lie
 //! is said in `crates/store/specs/Layout` and `crates/channel/specs/Layout`.
 
-use gondzselu::{Store, CHANNEL_WORDS, REGISTERS_WORDS};
+use gondzselu::Store;
 
 use crate::model::channel::{Body, Channel, Message, Tagged};
 use crate::model::placement::{Place, Placement};
@@ -119,15 +119,12 @@ pub fn written(state: &State, random: &mut Random) -> Store {
         requests,
         channel,
     } = state;
-    let mut store = Store {
-        registers: [0; REGISTERS_WORDS],
-        channel: [0; CHANNEL_WORDS],
-    };
+    let mut store = Store::unstarted();
+    let (words, channel_words) = store.words_mut();
     if random.percent(50) {
-        let words = store.registers.iter_mut().chain(&mut store.channel);
+        let words = words.iter_mut().chain(&mut *channel_words);
         words.for_each(|word| *word = random.bits() as u32);
     }
-    let words = &mut store.registers;
     words[REQUESTS] = *requests;
     for (number, (home, doing)) in placement
         .home
@@ -159,7 +156,7 @@ pub fn written(state: &State, random: &mut Random) -> Store {
             );
         }
     }
-    write_channel(state, &mut store.channel, random);
+    write_channel(state, channel_words, random);
     store
 }
 
@@ -251,7 +248,7 @@ fn task_in(words: &[u32]) -> Task {
 
 /// The state that a well-sized store shows.
 pub fn shown(store: &Store) -> State {
-    let (words, c) = (&store.registers, &store.channel);
+    let (words, c) = store.words();
     let [cards, tasks, registers, made] = [CARDS, TASKS, REGISTERS, MADE].map(|at| c[at] as usize);
     let place = |register: usize| Place {
         holders: words[HOLDERS + register] as u8,

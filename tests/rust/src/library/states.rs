@@ -3,8 +3,10 @@
 
 use std::collections::BTreeMap;
 
+use super::calls::Calls;
 use super::memory::{shown, written};
 use super::stretch::stretch;
+use super::wild;
 use crate::generate::{any_placement, near, operand};
 use crate::model::channel::{Body, Message, Tagged};
 use crate::model::placement::Placement;
@@ -57,9 +59,8 @@ fn queue(random: &mut Random, most: usize) -> usize {
     }
 }
 
-/// Any well-sized state. Beyond document 01's list, a message in flight has one destination, and
-/// a broadcast more than one (docs/DECISIONS.md). What lies in an inbox or is held may be for other
-/// cards, and a task's slot may have another task's message: document 01 calls none of it ill-sized.
+/// Any well-sized state (RULES 8.6). What lies in an inbox or is held may be for other cards, and a
+/// task's slot may have another task's message: no fault by RULES 8.7.
 pub fn any(random: &mut Random) -> State {
     let placement = any_placement(random);
     let (cards, all) = (placement.cards as usize, all(&placement));
@@ -152,42 +153,49 @@ pub(super) fn tagged(random: &mut Random, placement: &Placement, to: Cards, take
 pub struct Compared {
     pub states: usize,
     pub ill_sized: usize,
+    /// Kinds of fault (RULES 8.6), and in how many states.
+    pub faults: BTreeMap<&'static str, usize>,
     /// Results of steps from well-sized states, by number.
     pub results: BTreeMap<u8, usize>,
 }
 
-/// Compares some steps from a state made by hand.
+/// Compares some steps from a state made by hand, by every call that takes a step.
 pub fn compare(random: &mut Random, compared: &mut Compared) -> Result<(), String> {
     let mut state = any(random);
     if random.percent(60) {
         stretch(random, &mut state);
     }
-    let mut store = written(&state, random);
+    let store = written(&state, random);
     let ill_sized = !state.well_sized();
+    for fault in state.faults() {
+        *compared.faults.entry(fault).or_default() += 1;
+    }
     if !ill_sized && shown(&store) != state {
         return Err("the state isn't written as it is read".into());
     }
+    wild::compare(&store, random)?;
+    let mut calls = Calls::new(store, random.bits());
     for number in 0..random.between(1, 12) {
         let (code, argument) = near(random, &state.placement);
-        let before = store.clone();
+        let said = |words| format!("step {number}, code {code}, argument {argument:?}: {words}");
+        let before = calls.store().clone();
         let expected = state.step(code, argument);
-        let answer = store.step(code, argument);
-        let said = || format!("step {number}, code {code}, argument {argument:?}");
-        if answer != expected {
-            return Err(format!("{}: {answer:?}, not {expected:?}", said()));
-        }
-        if expected.0 != 0 && store != before {
-            return Err(format!("{}: refused, and a word changes", said()));
-        }
-        if !ill_sized && shown(&store) != state {
-            return Err(format!("{}: the memories show another state", said()));
-        }
         if ill_sized && expected.0 != 6 || ill_sized == state.well_sized() {
-            return Err(format!("{}: well-sizedness changes", said()));
+            return Err(said("well-sizedness changes".into()));
         }
-        if !ill_sized {
-            *compared.results.entry(expected.0).or_default() += 1;
+        if ill_sized {
+            calls.step_ill_sized(code, argument).map_err(said)?;
+            continue;
         }
+        calls.step(code, argument, expected).map_err(said)?;
+        calls.same().map_err(said)?;
+        if expected.0 != 0 && *calls.store() != before {
+            return Err(said("refused, and a word changes".into()));
+        }
+        if shown(calls.store()) != state {
+            return Err(said("the memories show another state".into()));
+        }
+        *compared.results.entry(expected.0).or_default() += 1;
     }
     compared.states += 1;
     compared.ill_sized += ill_sized as usize;

@@ -106,11 +106,18 @@ pub fn stretch(random: &mut Random, state: &mut State) {
 
 fn stretch_message(random: &mut Random, placement: &Placement, message: &mut Message) {
     let (registers, tasks) = (placement.registers.len(), placement.home.len());
-    match random.between(0, 3) {
+    match random.between(0, 4) {
         // Another task that is there would not be past its limit.
         0 => message.task = random.pick(&[tasks, 255]),
         1 => message.to = 0,
         2 if placement.cards < 8 => message.to |= 1 << random.byte(placement.cards, 7),
+        // A broadcast to one card, a message in flight to several.
+        4 => {
+            message.to = match random.percent(50) {
+                true => 1 << random.byte(0, placement.cards - 1),
+                false => random.byte(1, ((1u32 << placement.cards) - 1) as u8),
+            }
+        }
         _ => {
             let new = random.pick(&[registers - 1, registers, 255]);
             match &mut message.body {

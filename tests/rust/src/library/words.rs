@@ -2,7 +2,8 @@
 
 use gondzselu::Store;
 
-use super::memory::{self, written};
+use super::calls::Calls;
+use super::memory::{self, shown, written};
 use crate::model::channel::{Body, Message, Tagged};
 use crate::model::placement::Placement;
 use crate::model::{Cards, Request, State};
@@ -46,7 +47,7 @@ const MOST: u32 = u32::MAX;
 
 /// At its limit and past it, word by word.
 fn rows(store: &Store) -> Vec<Row> {
-    let (words, c) = (&store.registers, &store.channel);
+    let (words, c) = store.words();
     let mut rows = Vec::new();
     let mut row = |name: &'static str, channel: bool, at: usize, values: &[(u32, bool)]| {
         let values = values.to_vec();
@@ -233,7 +234,7 @@ fn rows(store: &Store) -> Vec<Row> {
     rows
 }
 
-/// Compares word by word; says how many states were tried.
+/// Compares word by word, by every call that takes a step; says how many states were tried.
 pub fn compare() -> Result<usize, String> {
     let mut tried = 0;
     let mut random = Random::new(0, 0);
@@ -249,21 +250,45 @@ pub fn compare() -> Result<usize, String> {
         {
             for (value, fine) in values {
                 let mut changed = store.clone();
-                let words: &mut [u32] = if channel {
-                    &mut changed.channel
-                } else {
-                    &mut changed.registers
-                };
+                let (registers, channels) = changed.words_mut();
+                let words: &mut [u32] = if channel { channels } else { registers };
                 words[at] = value;
-                let before = changed.clone();
-                // An unknown code meets 10, and 6 comes first.
-                let answer = changed.step(0, [0; 8]);
-                if answer != (if fine { 10 } else { 6 }, 0) || changed != before {
-                    return Err(format!("{name}, word {at} is {value}: {answer:?}"));
-                }
+                compare_word(changed, fine, tried as u64)
+                    .map_err(|words| format!("{name}, word {at} is {value}: {words}"))?;
                 tried += 1;
             }
         }
     }
     Ok(tried)
+}
+
+fn compare_word(store: Store, fine: bool, seed: u64) -> Result<(), String> {
+    let mut calls = Calls::new(store.clone(), seed);
+    // An unknown code meets 10, and 6 comes first.
+    if fine {
+        calls.step(0, [0; 8], (10, 0))?;
+        calls.same()?;
+    } else {
+        calls.step_ill_sized(0, [0; 8])?;
+    }
+    if *calls.store() != store {
+        return Err("a word changes".into());
+    }
+    // The cards and tasks that have something, and one of each that has nothing.
+    for first in [0, 3, 5, 6, 7, 9] {
+        for code in 1..=10 {
+            let argument = [first, 0, (code == 2) as u8, 0, 0, 0, 0, 0];
+            if !fine {
+                calls.step_ill_sized(code, argument)?;
+                continue;
+            }
+            let mut state = shown(calls.store());
+            calls.step(code, argument, state.step(code, argument))?;
+            calls.same()?;
+            if shown(calls.store()) != state {
+                return Err(format!("code {code}: the memories show another state"));
+            }
+        }
+    }
+    Ok(())
 }

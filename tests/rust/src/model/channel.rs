@@ -1,19 +1,15 @@
-//! The context multicast channel: outboxes, broadcasts, single messages and inboxes.
-//! "The channel (6, 7, 8 and the inbox) is a layer of its own".
+//! The context multicast channel (RULES 6): outboxes, broadcasts, single messages and inboxes.
 
 use std::collections::VecDeque;
 
 use super::{has, Card, Cards, Refusal, Request, TaskNumber};
 
-/// "Of any card, an outbox has at most 16 messages, an inbox 48, and at most 16 messages are
-/// held; ... broadcast numbers ... end at 65,535."
+// The limits: RULES 7.1 to 7.3, 7.7, 7.5, 7.6.
 pub const OUTBOX: usize = 16;
 pub const INBOX: usize = 48;
 pub const HELD: usize = 16;
 pub const BROADCASTS: u32 = 65_535;
-/// "34 a broadcast would leave some card more than 64 behind."
 pub const BEHIND: u32 = 64;
-/// "35 ... its inbox already has 32 undelivered broadcasts."
 pub const UNDELIVERED: usize = 32;
 
 #[derive(Clone, Copy, Debug, PartialEq, Eq)]
@@ -31,12 +27,13 @@ pub struct Message {
 }
 
 impl Message {
+    /// RULES 6.1.
     pub fn is_broadcast(&self) -> bool {
         self.to.count_ones() > 1
     }
 }
 
-/// A single message with the number of broadcasts its sender had taken.
+/// A single message with its tag, the number of broadcasts its sender had taken (RULES 6.3).
 #[derive(Clone, Copy, Debug, PartialEq, Eq)]
 pub struct Tagged {
     pub message: Message,
@@ -62,7 +59,7 @@ pub struct Channel {
     pub inbox: Vec<VecDeque<Message>>,
     /// By card, in order of arrival.
     pub held: Vec<Vec<Tagged>>,
-    /// By task: "a task has at most one message in flight".
+    /// By task, which has at most one (RULES 7.4).
     pub flight: Vec<Option<Tagged>>,
 }
 
@@ -92,7 +89,7 @@ impl Channel {
         self.recent.get(index)
     }
 
-    /// Whether one more message for these destinations may join a card's outbox.
+    /// Whether one more message for these destinations may join a card's outbox (RULES 8.8).
     pub fn may_send(&self, card: Card, to: Cards) -> Result<(), Refusal> {
         if to == 0 || self.outbox[card].len() >= OUTBOX {
             return Err(6);
@@ -104,8 +101,8 @@ impl Channel {
         self.outbox[card].push_back(message);
     }
 
+    /// 30, 34, then 6 (RULES 5.6, 7.10, 8.8).
     pub fn may_dispatch(&self, card: Card) -> Result<(), Refusal> {
-        // "30 outbox empty."
         let head = self.outbox[card].front().ok_or(30)?;
         if head.is_broadcast() {
             let number = self.made + 1;
@@ -121,28 +118,25 @@ impl Channel {
         Ok(())
     }
 
-    /// "Dispatch the head of a card's outbox."
+    /// RULES 5.6.
     pub fn dispatch(&mut self, card: Card) {
         let Some(message) = self.outbox[card].pop_front() else {
             return;
         };
         if message.is_broadcast() {
-            // "it gets the next broadcast number, from 1"
             self.made += 1;
             if self.recent.len() == BEHIND as usize {
                 self.recent.pop_front();
             }
             self.recent.push_back(message);
         } else {
-            // "it is tagged with the number of broadcasts this card has taken and is in flight.
-            // Replies are tagged too."
             let tag = self.taken[card];
             self.flight[message.task] = Some(Tagged { message, tag });
         }
     }
 
+    /// 31, 35, then 6 (RULES 5.7, 7.11, 8.8).
     pub fn may_take_broadcast(&self, card: Card) -> Result<(), Refusal> {
-        // "31 no broadcast to take."
         let next = self.next(card).ok_or(31)?;
         let joins = has(next.to, card);
         if joins && self.undelivered(card) >= UNDELIVERED {
@@ -156,9 +150,7 @@ impl Channel {
         Ok(())
     }
 
-    /// "the card takes the next number. It joins the inbox if the card is a destination, else
-    /// it is dropped. Then held single messages whose tag equals the new number join, in order
-    /// of arrival."
+    /// RULES 5.7, 6.5.
     pub fn take_broadcast(&mut self, card: Card) {
         let next = self.next(card).copied();
         let inbox = &mut self.inbox[card];
@@ -174,8 +166,8 @@ impl Channel {
         });
     }
 
+    /// 32, then 6 (RULES 5.8, 8.8).
     pub fn may_take_single(&self, task: TaskNumber) -> Result<(), Refusal> {
-        // "32 nothing of that task in flight."
         let single = self.flight[task].ok_or(32)?;
         let card = single.destination();
         let room = if single.tag <= self.taken[card] {
@@ -190,8 +182,7 @@ impl Channel {
         }
     }
 
-    /// "the named task's message in flight reaches its destination. A tag at most the number
-    /// taken there joins the inbox; a larger one is held."
+    /// RULES 5.8.
     pub fn take_single(&mut self, task: TaskNumber) {
         let Some(single) = self.flight[task].take() else {
             return;

@@ -1,4 +1,4 @@
-//! "Run file and answer file", with refusals 1 to 5.
+//! Run file and answer file (RULES 3 and 4), with refusals 1 to 5.
 
 use std::cmp::Ordering;
 
@@ -16,10 +16,8 @@ pub struct Run {
 }
 
 impl Run {
-    /// Reads a run file. "Order: file 1 (under 5 bytes), 3, 1, 2, 4".
+    /// Reads a run file, its parts as in RULES 3.1. It is refused in the order of 8.3.
     pub fn read(file: &[u8]) -> Result<Run, Refusal> {
-        // "Sizes first: cards, registers, tasks (a byte each), steps N (two bytes, low byte
-        // first)."
         let &[cards, registers, tasks, low, high, ref rest @ ..] = file else {
             return Err(1);
         };
@@ -29,14 +27,11 @@ impl Run {
         if !sizes_in_range(cards as usize, registers, tasks, steps) {
             return Err(3);
         }
-        // "Length: 5 + tasks + 2 × registers + 9 × N."
         match file.len().cmp(&(5 + tasks + 2 * registers + 9 * steps)) {
             Ordering::Less => return Err(1),
             Ordering::Greater => return Err(2),
             Ordering::Equal => {}
         }
-        // "Then the home card of each task (a byte each). Then two parallel arrays over
-        // registers ... Then two parallel arrays over steps".
         let (home, rest) = rest.split_at(tasks);
         let (holders, rest) = rest.split_at(registers);
         let (primaries, rest) = rest.split_at(registers);
@@ -73,8 +68,7 @@ impl Run {
     }
 }
 
-/// "N (two bytes), then two parallel arrays over steps: result (a byte ...) and value (four
-/// bytes, low first)".
+/// The answer file of results and values (RULES 4.1).
 pub fn write_answer(answers: &[(u8, u32)]) -> Vec<u8> {
     let mut answer = (answers.len() as u16).to_le_bytes().to_vec();
     answer.extend(answers.iter().map(|&(result, _)| result));
@@ -93,13 +87,13 @@ pub fn answer_file(file: &[u8]) -> Result<Vec<u8>, Refusal> {
     Ok(write_answer(&answers))
 }
 
-/// What the program writes: "for a refused file it writes the refusal as one byte".
+/// What the program writes (RULES 4.6).
 pub fn program_output(file: &[u8]) -> Vec<u8> {
     answer_file(file).unwrap_or_else(|refusal| vec![refusal])
 }
 
-/// The answer in a lent output, and the tally brought up to date. Gives 0 or the refusal of
-/// the file. "5 output shorter than 2 + 5N, untouched."; "bytes past 2 + 5N are untouched".
+/// The answer in a lent output, and the tally brought up to date (RULES 4.4, 4.5, 9.4). Gives 0
+/// or the refusal, 1 to 5.
 pub fn answer_into(file: &[u8], output: &mut [u8], tally: &mut Tally) -> u8 {
     let answer = match answer_file(file) {
         Ok(answer) => answer,

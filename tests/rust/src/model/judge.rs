@@ -1,4 +1,4 @@
-//! Refusals 20 to 35, and 6 for the outcome: the state is only looked at.
+//! Refusals 20 to 35, and 6 for the outcome (RULES 8.2, 8.8): the state is only looked at.
 
 use super::step::Step;
 use super::{has, only, Refusal, Request, State, Task, REQUESTS};
@@ -8,23 +8,20 @@ impl State {
     pub(super) fn judge(&self, step: Step) -> Result<(), Refusal> {
         match step {
             Step::RequestRead { task, .. } | Step::RequestUpdate { task, .. } => {
-                // "20 request while not quiet."
                 if self.tasks[task] != Task::Quiet {
                     return Err(20);
                 }
-                // "23 a request after 65,535 taken"
                 if self.requests == REQUESTS {
                     return Err(23);
                 }
                 Ok(())
             }
             Step::Perform { task } => {
-                // "21 not asking (3, 4, 5; ...)"
                 let Task::Asking(request) = self.tasks[task] else {
                     return Err(21);
                 };
                 let home = self.home(task);
-                // "a read with a copy on the card ...; an update whose only copy is on the card"
+                // RULES 5.3.
                 let fits = match request {
                     Request::Read { register } => has(self.holders(register), home),
                     Request::Update { register, .. } => self.holders(register) == only(home),
@@ -36,26 +33,24 @@ impl State {
                 }
             }
             Step::SendRead { task, chosen } => {
-                // "4 wants a read"
                 let Task::Asking(Request::Read { register }) = self.tasks[task] else {
                     return Err(21);
                 };
                 let home = self.home(task);
                 let holders = self.holders(register);
-                // "no copy on the card; a read message to the chosen holder"
+                // RULES 5.4.
                 if has(holders, home) || !has(holders, chosen) {
                     return Err(22);
                 }
                 self.channel.may_send(home, only(chosen))
             }
             Step::SendUpdate { task } => {
-                // "5 an update"
                 let Task::Asking(Request::Update { register, .. }) = self.tasks[task] else {
                     return Err(21);
                 };
                 let home = self.home(task);
                 let holders = self.holders(register);
-                // "the card isn't the only holder"
+                // RULES 5.5.
                 if holders == only(home) {
                     return Err(22);
                 }
@@ -65,7 +60,6 @@ impl State {
             Step::TakeBroadcast { card } => self.channel.may_take_broadcast(card),
             Step::TakeSingle { task } => self.channel.may_take_single(task),
             Step::Deliver { card } => {
-                // "33 inbox empty."
                 let message = self.channel.inbox[card].front().ok_or(33)?;
                 match self.reply(card, message) {
                     Some(reply) => self.channel.may_send(card, reply.to),
@@ -74,7 +68,6 @@ impl State {
             }
             Step::Report { task } => match self.tasks[task] {
                 Task::Done(_) => Ok(()),
-                // "or not done (10)"
                 _ => Err(21),
             },
         }

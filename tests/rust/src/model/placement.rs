@@ -5,7 +5,7 @@ use super::{has, Refusal};
 /// Where the copies of one register lie.
 #[derive(Clone, Copy, Debug, PartialEq, Eq)]
 pub struct Place {
-    /// "bit i set where card i holds one; bit 0 is worth 1"
+    /// A set of cards (RULES 1.5).
     pub holders: u8,
     pub primary: u8,
 }
@@ -18,7 +18,7 @@ pub struct Placement {
     pub registers: Vec<Place>,
 }
 
-/// "Cards 1 to 8, registers 1 to 32, tasks 1 to 16, steps in a file 0 to 4,096."
+/// RULES 1.3.
 pub fn sizes_in_range(cards: usize, registers: usize, tasks: usize, steps: usize) -> bool {
     (1..=8).contains(&cards)
         && (1..=32).contains(&registers)
@@ -41,13 +41,12 @@ impl Placement {
         card < self.cards
     }
 
-    /// "meets 3, then 4"
+    /// 3, then 4 (RULES 8.2, 8.4).
     pub fn judge(&self) -> Result<(), Refusal> {
         let (registers, tasks) = (self.registers.len(), self.home.len());
         if !sizes_in_range(self.cards as usize, registers, tasks, 0) {
             return Err(3);
         }
-        // "4 no copy, a copy or home on an absent card, or a primary without a copy."
         let homes = self.home.iter().all(|&home| self.present(home));
         let places = self.registers.iter().all(|place| {
             place.holders != 0

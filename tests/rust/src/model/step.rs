@@ -1,4 +1,4 @@
-//! A step's code and argument, and refusals 10 to 15: "Who writes the step".
+//! A step's code and argument (RULES 3.3), and refusals 10 to 15, of who writes the step.
 
 use super::placement::Placement;
 use super::{Card, Refusal, Register, TaskNumber};
@@ -42,24 +42,21 @@ pub enum Step {
     },
 }
 
-/// The bytes of the argument that a code names; the others, and always byte 3, must be zero.
+/// The bytes of the argument that a code names (RULES 3.3); the others, and always byte 3, must be
+/// zero (3.4).
 fn named_bytes(code: u8) -> &'static [usize] {
     match code {
-        // "byte 1 the register for 1 and 2, the chosen card for 4"
         1 | 4 => &[0, 1],
-        // "byte 2 the function for 2"; "bytes 4 to 7 the operand for 2"
         2 => &[0, 1, 2, 4, 5, 6, 7],
         _ => &[0],
     }
 }
 
-/// The step, or the lowest of refusals 10 to 15.
+/// The step, or the lowest of refusals 10 to 15 (RULES 8.5).
 pub fn decode(code: u8, argument: [u8; 8], placement: &Placement) -> Result<Step, Refusal> {
-    // "10 unknown code."
     if !(1..=10).contains(&code) {
         return Err(10);
     }
-    // "11 an unnamed byte not zero."
     let named = named_bytes(code);
     if (0..8).any(|i| argument[i] != 0 && !named.contains(&i)) {
         return Err(11);
@@ -69,7 +66,6 @@ pub fn decode(code: u8, argument: [u8; 8], placement: &Placement) -> Result<Step
     let function = argument[2];
     let operand = u32::from_le_bytes([argument[4], argument[5], argument[6], argument[7]]);
 
-    // "byte 0 is the task for codes 1, 2, 3, 4, 5, 8, 10 and the card for 6, 7, 9"
     let names_task = !matches!(code, 6 | 7 | 9);
     let cards = placement.cards as usize;
     if names_task && first >= placement.home.len() {

@@ -1,4 +1,4 @@
-//! "A tally of steps taken and steps refused".
+//! A tally of steps taken and steps refused (RULES 9).
 
 #[derive(Clone, Copy, Debug, Default, PartialEq, Eq)]
 pub struct Tally {
@@ -7,8 +7,7 @@ pub struct Tally {
 }
 
 impl Tally {
-    /// Counts one step's result. "each of the two 32-bit counts stays at its largest value
-    /// once there. Every refusal of a step counts, 6 too."
+    /// Counts one step's result (RULES 9.2, 9.3).
     pub fn count(&mut self, result: u8) {
         let count = if result == 0 {
             &mut self.taken

@@ -5,10 +5,10 @@ use Rattle.judge.proofs.text.show.Statement.{statement}
 use Rattle.judge.proofs.text.show.Tie as tie
 
 abbrev Inv-loop : tie.InvT-loop
-Inv-loop bytes i₀ i = Unit
+Inv-loop page₀ at bytes next₀ i₀ page next i = Unit
 
 abbrev μ-loop : tie.MeasureT-loop
-μ-loop bytes i₀ i = length bytes - i
+μ-loop page₀ at bytes next₀ i₀ page next i = length bytes - i
 
 loop-holds : tie.Need-loop-holds Inv-loop μ-loop
 loop-holds c = search needs
@@ -16,8 +16,8 @@ loop-holds c = search needs
 byte-requires : tie.Need-byte-requires Inv-loop μ-loop
 byte-requires c κs = search needs
 
-hex-requires : tie.Need-hex-requires Inv-loop μ-loop
-hex-requires c κs = search needs
+shown-requires : tie.Need-shown-requires Inv-loop μ-loop
+shown-requires c κs = search needs
 
 add-i : tie.Need-add-i Inv-loop μ-loop
 add-i c = search needs
@@ -39,7 +39,7 @@ show-spec =
     μ-loop
     loop-holds
     byte-requires
-    hex-requires
+    shown-requires
     add-i
     loop-less
     loop-again

@@ -4,10 +4,10 @@ use Rattle.runs.proofs.files.refusals.Statement.{statement}
 use Rattle.runs.proofs.files.refusals.Tie as tie
 
 abbrev Inv-loop : tie.InvT-loop
-Inv-loop out end number₀ number = Unit
+Inv-loop page₀ at out end next₀ number₀ page next number = Unit
 
 abbrev μ-loop : tie.MeasureT-loop
-μ-loop out end number₀ number = 256 - number
+μ-loop page₀ at out end next₀ number₀ page next number = 256 - number
 
 steps-requires : tie.Need-steps-requires Inv-loop μ-loop
 steps-requires c κs = search needs

@@ -5,10 +5,10 @@ use Rattle.view.proofs.asked.raw.Statement.{statement}
 use Rattle.view.proofs.asked.raw.Tie as tie
 
 abbrev Inv-loop : tie.InvT-loop
-Inv-loop code argument i₀ t5 i = Unit
+Inv-loop page₀ at code argument a next₀ i₀ page next i = Unit
 
 abbrev μ-loop : tie.MeasureT-loop
-μ-loop code argument i₀ t5 i = length argument - i
+μ-loop page₀ at code argument a next₀ i₀ page next i = length argument - i
 
 slice-aggregate-say : tie.Need-slice-aggregate-say Inv-loop μ-loop
 slice-aggregate-say c = search needs
@@ -16,23 +16,17 @@ slice-aggregate-say c = search needs
 say-requires : tie.Need-say-requires Inv-loop μ-loop
 say-requires c κs = search needs
 
-hex-requires : tie.Need-hex-requires Inv-loop μ-loop
-hex-requires c κs = search needs
+one-raw-requires : tie.Need-one-raw-requires Inv-loop μ-loop
+one-raw-requires c κs = search needs
 
 loop-holds : tie.Need-loop-holds Inv-loop μ-loop
 loop-holds c = search needs
 
-slice-aggregate-say-2 : tie.Need-slice-aggregate-say-2 Inv-loop μ-loop
-slice-aggregate-say-2 c = search needs
-
-say-requires-2 : tie.Need-say-requires-2 Inv-loop μ-loop
-say-requires-2 c κs = search needs
-
 byte-requires : tie.Need-byte-requires Inv-loop μ-loop
 byte-requires c κs = search needs
 
-hex-requires-2 : tie.Need-hex-requires-2 Inv-loop μ-loop
-hex-requires-2 c κs = search needs
+one-raw-requires-2 : tie.Need-one-raw-requires-2 Inv-loop μ-loop
+one-raw-requires-2 c κs = search needs
 
 add-i : tie.Need-add-i Inv-loop μ-loop
 add-i c = search needs
@@ -57,12 +51,10 @@ raw-spec =
     μ-loop
     slice-aggregate-say
     say-requires
-    hex-requires
+    one-raw-requires
     loop-holds
-    slice-aggregate-say-2
-    say-requires-2
     byte-requires
-    hex-requires-2
+    one-raw-requires-2
     add-i
     loop-less
     loop-again

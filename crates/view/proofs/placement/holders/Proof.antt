@@ -4,10 +4,10 @@ use Rattle.view.proofs.placement.holders.Statement.{statement}
 use Rattle.view.proofs.placement.holders.Tie as tie
 
 abbrev Inv-loop : tie.InvT-loop
-Inv-loop copies i₀ i = Unit
+Inv-loop page₀ at copies next₀ i₀ page next i = Unit
 
 abbrev μ-loop : tie.MeasureT-loop
-μ-loop copies i₀ i = 8 - i
+μ-loop page₀ at copies next₀ i₀ page next i = 8 - i
 
 loop-holds : tie.Need-loop-holds Inv-loop μ-loop
 loop-holds c = search needs

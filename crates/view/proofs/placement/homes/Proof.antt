@@ -4,10 +4,10 @@ use Rattle.view.proofs.placement.homes.Statement.{statement}
 use Rattle.view.proofs.placement.homes.Tie as tie
 
 abbrev Inv-loop : tie.InvT-loop
-Inv-loop file tasks t₀ t = Unit
+Inv-loop page₀ at file tasks next₀ t₀ page next t = Unit
 
 abbrev μ-loop : tie.MeasureT-loop
-μ-loop file tasks t₀ t = tasks - t
+μ-loop page₀ at file tasks next₀ t₀ page next t = tasks - t
 
 loop-holds : tie.Need-loop-holds Inv-loop μ-loop
 loop-holds c = search needs

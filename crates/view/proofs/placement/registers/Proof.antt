@@ -4,10 +4,10 @@ use Rattle.view.proofs.placement.registers.Statement.{statement}
 use Rattle.view.proofs.placement.registers.Tie as tie
 
 abbrev Inv-loop : tie.InvT-loop
-Inv-loop file n x₀ x = Unit
+Inv-loop page₀ at file n next₀ x₀ page next x = Unit
 
 abbrev μ-loop : tie.MeasureT-loop
-μ-loop file n x₀ x = n - x
+μ-loop page₀ at file n next₀ x₀ page next x = n - x
 
 loop-holds : tie.Need-loop-holds Inv-loop μ-loop
 loop-holds c = search needs

@@ -1,0 +1,8 @@
+-- A step as a tally counts it (RULES 9.3): taken for result 0, else refused, 6 too.
+use Prim.Native.Nat.{ℕ}
+use mathlib.Core.Bool.{cond}
+use Rattle.tally.specs.Tally.{isTaken}
+use Rattle.firmware.specs.declared.Counts.{Counts}
+
+unfoldable pub countsOf : ℕ → Counts
+countsOf r = record { result = r; taken = cond (isTaken r) 1 0; refused = cond (isTaken r) 0 1 }

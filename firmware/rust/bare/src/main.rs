@@ -1,0 +1,100 @@
+//! K9 in a program without `std`, without an allocator and with its store in a `static`, as
+//! firmware has it. It ends with 0, or with the number of the first thing that is not as RULES
+//! says. Were `std` in the crate or below it, this would have two panic handlers and not build;
+//! were `alloc`, it would have no allocator.
+
+#![no_std]
+#![no_main]
+
+use core::panic::PanicInfo;
+use core::ptr::addr_of_mut;
+
+use gondzselu::{Condition, Function, Placement, Refusal, Step, Store, Tally};
+
+#[link(name = "c")]
+extern "C" {
+    fn abort() -> !;
+}
+
+#[panic_handler]
+fn panic(_: &PanicInfo<'_>) -> ! {
+    // SAFETY: it ends the program.
+    unsafe { abort() }
+}
+
+/// The `core` of this target is built to unwind and asks for this name; here nothing unwinds.
+#[no_mangle]
+extern "C" fn rust_eh_personality() {}
+
+static mut STORE: Store = Store::unstarted();
+
+/// Three cards, a task on each. Register 0 everywhere, register 1 on card 1.
+const PLACEMENT: Placement<'_> = Placement {
+    cards: 3,
+    homes: &[0, 1, 2],
+    copies: &[7, 2],
+    primaries: &[0, 1],
+};
+
+const fn set(task: u8, register: u8, operand: u32) -> Step {
+    Step::RequestUpdate {
+        task,
+        register,
+        function: Function::Set,
+        operand,
+    }
+}
+
+const READ: Step = Step::RequestRead {
+    task: 0,
+    register: 0,
+};
+
+const K9: [(Step, Result<u32, Refusal>); 16] = [
+    (set(2, 0, 7), Ok(0)),
+    (Step::SendUpdate { task: 2 }, Ok(0)),
+    (Step::Dispatch { card: 2 }, Ok(0)),
+    (Step::TakeBroadcast { card: 0 }, Ok(0)),
+    (Step::Deliver { card: 0 }, Ok(0)),
+    (READ, Ok(0)),
+    (Step::Perform { task: 0 }, Ok(0)),
+    (Step::Report { task: 0 }, Ok(7)),
+    (set(0, 1, 9), Ok(0)),
+    (Step::SendUpdate { task: 0 }, Ok(0)),
+    (Step::Dispatch { card: 0 }, Ok(0)),
+    (Step::TakeSingle { task: 0 }, Ok(0)),
+    (Step::Deliver { card: 1 }, Err(Refusal::InboxEmpty)),
+    (Step::TakeBroadcast { card: 1 }, Ok(0)),
+    (Step::Deliver { card: 1 }, Ok(0)),
+    (Step::Deliver { card: 1 }, Ok(0)),
+];
+
+fn play(store: &mut Store) -> i32 {
+    if store.restart(PLACEMENT).is_err() {
+        return 1;
+    }
+    let mut tally = Tally::default();
+    for (step, answer) in K9 {
+        if store.step_counted(step, &mut tally) != answer {
+            return 2;
+        }
+    }
+    if (tally.taken, tally.refused) != (15, 1) {
+        return 3;
+    }
+    let copies = [0, 1, 2].map(|card| [store.copy(card, 0), store.copy(card, 1)]);
+    if copies != [[7, 0], [7, 9], [0, 0]] {
+        return 4;
+    }
+    let conditions = [0, 1, 2].map(|task| store.task(task));
+    if conditions != [Condition::Waiting, Condition::Quiet, Condition::Waiting] {
+        return 5;
+    }
+    0
+}
+
+#[no_mangle]
+extern "C" fn main() -> i32 {
+    // SAFETY: nothing else names the store, and this is called once.
+    play(unsafe { &mut *addr_of_mut!(STORE) })
+}

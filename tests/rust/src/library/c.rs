@@ -1,0 +1,116 @@
+//! The library's functions as C calls them: the value of a refused step too, which the crate
+//! leaves out, and numbers of cards, tasks and registers of 32 bits.
+
+use gondzselu::{Store, Tally};
+
+extern "C" {
+    fn gondzselu_version() -> u32;
+    fn gondzselu_start(
+        registers: *mut u32,
+        channel: *mut u32,
+        cards: u32,
+        homes: *const u8,
+        homes_length: usize,
+        copies: *const u8,
+        copies_length: usize,
+        primaries: *const u8,
+        primaries_length: usize,
+    ) -> u8;
+    fn gondzselu_step(r: *mut u32, c: *mut u32, code: u8, at: *const u8, value: *mut u32) -> u8;
+    fn gondzselu_advance(r: *mut u32, c: *mut u32, code: u8, at: *const u8, value: *mut u32) -> u8;
+    fn gondzselu_step_counted(
+        registers: *mut u32,
+        channel: *mut u32,
+        code: u8,
+        argument: *const u8,
+        value: *mut u32,
+        tally: *mut Tally,
+    ) -> u8;
+    fn gondzselu_copy(registers: *const u32, channel: *const u32, card: u32, register: u32) -> u32;
+    fn gondzselu_task(registers: *const u32, channel: *const u32, task: u32) -> u32;
+    fn gondzselu_task_value(registers: *const u32, channel: *const u32, task: u32) -> u32;
+    fn gondzselu_broadcasts_taken(channel: *const u32, card: u32) -> u32;
+}
+
+/// What lies where a value is written: it is no answer.
+const BEFORE: u32 = 0xA5A5_A5A5;
+
+pub fn version() -> u32 {
+    unsafe { gondzselu_version() }
+}
+
+/// Both memories, to write. The crate has checked their sizes.
+fn lent(store: &mut Store) -> (*mut u32, *mut u32) {
+    let (registers, channel) = store.words_mut();
+    (registers.as_mut_ptr(), channel.as_mut_ptr())
+}
+
+fn read(store: &Store) -> (*const u32, *const u32) {
+    let (registers, channel) = store.words();
+    (registers.as_ptr(), channel.as_ptr())
+}
+
+pub fn start(store: &mut Store, cards: u32, homes: &[u8], copies: &[u8], primaries: &[u8]) -> u8 {
+    let (registers, channel) = lent(store);
+    unsafe {
+        gondzselu_start(
+            registers,
+            channel,
+            cards,
+            homes.as_ptr(),
+            homes.len(),
+            copies.as_ptr(),
+            copies.len(),
+            primaries.as_ptr(),
+            primaries.len(),
+        )
+    }
+}
+
+pub fn step(store: &mut Store, code: u8, argument: [u8; 8]) -> (u8, u32) {
+    let (registers, channel) = lent(store);
+    let mut value = BEFORE;
+    let result = unsafe { gondzselu_step(registers, channel, code, argument.as_ptr(), &mut value) };
+    (result, value)
+}
+
+pub fn advance(store: &mut Store, code: u8, argument: [u8; 8]) -> (u8, u32) {
+    let (registers, channel) = lent(store);
+    let mut value = BEFORE;
+    let at = argument.as_ptr();
+    let result = unsafe { gondzselu_advance(registers, channel, code, at, &mut value) };
+    (result, value)
+}
+
+pub fn step_counted(
+    store: &mut Store,
+    code: u8,
+    argument: [u8; 8],
+    tally: &mut Tally,
+) -> (u8, u32) {
+    let (registers, channel) = lent(store);
+    let mut value = BEFORE;
+    let at = argument.as_ptr();
+    let result = unsafe { gondzselu_step_counted(registers, channel, code, at, &mut value, tally) };
+    (result, value)
+}
+
+pub fn copy(store: &Store, card: u32, register: u32) -> u32 {
+    let (registers, channel) = read(store);
+    unsafe { gondzselu_copy(registers, channel, card, register) }
+}
+
+/// The condition's number, and its value.
+pub fn task(store: &Store, task: u32) -> (u32, u32) {
+    let (registers, channel) = read(store);
+    unsafe {
+        (
+            gondzselu_task(registers, channel, task),
+            gondzselu_task_value(registers, channel, task),
+        )
+    }
+}
+
+pub fn broadcasts_taken(store: &Store, card: u32) -> u32 {
+    unsafe { gondzselu_broadcasts_taken(read(store).1, card) }
+}
