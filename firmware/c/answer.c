@@ -1,6 +1,7 @@
 /*
- * Answers a run file: the result and the value of each step, then the tally. A refused file gets
- * one line, its refusal. Ends with 1 if a read or a write failed, with 2 if called wrongly.
+ * Answers a run file: the result and the value of each step that is taken, a sentence for each that
+ * is refused, then the tally. A refused file gets one line, its refusal. Ends with 1 if a read or a
+ * write failed, with 2 if called wrongly.
  *
  *   firmware/install PREFIX
  *   export PKG_CONFIG_PATH=PREFIX/lib/pkgconfig
@@ -36,6 +37,16 @@ static int read_file(const char *name, size_t *length) {
     return 0;
 }
 
+/* A refused step's sentence. A taken step has none: its result, 0, and its value. */
+static void print_step(uint32_t step, uint8_t result, uint32_t value) {
+    uint8_t text[GONDZSELU_SENTENCE_MAX];
+    uint32_t length;
+    if (gondzselu_sentence(step, result, text, sizeof text, &length) == 0)
+        printf("%.*s\n", (int)length, (const char *)text);
+    else
+        printf("step %" PRIu32 ": %u, %" PRIu32 "\n", step, result, value);
+}
+
 static void print_answer(size_t length) {
     gondzselu_tally tally = {0, 0};
     uint8_t refusal = gondzselu_answer_counted(file, length, output, sizeof output, &tally);
@@ -43,12 +54,12 @@ static void print_answer(size_t length) {
         printf("refused: %u\n", refusal);
         return;
     }
-    size_t steps = output[0] + 256 * (size_t)output[1];
+    uint32_t steps = output[0] + 256 * (uint32_t)output[1];
     const uint8_t *results = output + 2, *values = results + steps;
-    for (size_t k = 0; k < steps; k++) {
+    for (uint32_t k = 0; k < steps; k++) {
         const uint8_t *v = values + 4 * k; /* low byte first, on every machine */
         uint32_t value = v[0] | (uint32_t)v[1] << 8 | (uint32_t)v[2] << 16 | (uint32_t)v[3] << 24;
-        printf("step %zu: %u, %" PRIu32 "\n", k, results[k], value);
+        print_step(k, results[k], value);
     }
     printf("taken %" PRIu32 ", refused %" PRIu32 "\n", tally.taken, tally.refused);
 }

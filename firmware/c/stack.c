@@ -32,6 +32,10 @@ static void start(void) { bad += gondzselu_start(&r, &c, 8, f + 5, 16, f + 21, 3
 static void start_file(void) { bad += gondzselu_start_file(&r, &c, f, sizeof f); }
 static void step(void) { EACH gondzselu_step_counted(&r, &c, *k, a, &v, &tally); }
 static void advance(void) { EACH gondzselu_advance(&r, &c, *k, a, &v); }
+static void sentence(void) {
+    for (int k = 0; k < 256; k++) gondzselu_sentence(UINT32_MAX, (uint8_t)k, out, sizeof out, &v);
+    bad += gondzselu_sentence(UINT32_MAX, GONDZSELU_INBOX_FULL, out, GONDZSELU_SENTENCE_MAX, &v);
+}
 static void panel(void) { v = gondzselu_copy(&r, &c, 1, 1) + gondzselu_task_value(&r, &c, 1); }
 
 static int above(const char *name, void (*call)(void), size_t limit) {
@@ -52,8 +56,9 @@ static int above(const char *name, void (*call)(void), size_t limit) {
 int main(void) {
     fill();
     int over = above("answer", answer, GONDZSELU_STACK_ANSWER);
-    void (*const calls[])(void) = {start, start_file, step, advance, panel};
-    static const char *const names[] = {"start", "start_file", "step", "advance", "panel"};
-    for (int k = 0; k < 5; k++) over += above(names[k], calls[k], GONDZSELU_STACK_CALL);
+    void (*const calls[])(void) = {start, start_file, step, advance, sentence, panel};
+    static const char *const names[] = {"start",   "start_file", "step",
+                                        "advance", "sentence",   "panel"};
+    for (int k = 0; k < 6; k++) over += above(names[k], calls[k], GONDZSELU_STACK_CALL);
     return over > 0 || bad > 0 || tally.taken < 500; /* a refused file would measure nothing */
 }

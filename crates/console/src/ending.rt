@@ -1,4 +1,4 @@
-// Input that cannot be read, output that cannot be written: the program says so on standard error and ends with a status that is not 0.
+// Input that cannot be read or used, output that cannot be written: the program says so on standard error and ends with a status that is not 0.
 
 // `main` gives no status, a crate may declare no function of C's, and the kit has none that ends a program. But a frame that does not fit
 // ends it: calls 65,536 bytes apart pass any stack up to 256 MiB, and the guard page below it is met (signal 11, status 139 in a shell).
@@ -11,7 +11,8 @@ fn stop(depth: u32) {
     libc::write(-1, &frame);
 }
 
-fn end(name: &[u8], why: &[u8]) {
+// A program says why it cannot go on, and ends.
+pub fn failed(name: &[u8], why: &[u8]) {
     io::write_all(2, name);
     io::write_all(2, why);
     io::write_all(2, b"; ending by a fault, so that the status tells\n");
@@ -29,9 +30,9 @@ pub fn read_whole(n: usize, buffer: &[u8]) -> bool {
 }
 
 pub fn unread(name: &[u8]) {
-    end(name, b": the input cannot be read");
+    failed(name, b": the input cannot be read");
 }
 
 pub fn unwritten(name: &[u8]) {
-    end(name, b": standard output cannot be written");
+    failed(name, b": standard output cannot be written");
 }

@@ -5,6 +5,7 @@
 mod ending;
 mod words;
 
+pub use ending::failed;
 pub use ending::read_whole;
 pub use ending::unread;
 pub use ending::unwritten;
@@ -39,6 +40,19 @@ pub fn say(page: &mut [u8; 65536], at: usize, text: &[u8]) -> usize {
     let mut i: usize = 0;
     while i < text.len() {
         next = put(page, next, text[i]);
+        i += 1;
+    }
+    next
+}
+
+// The first n bytes of a room, or all of it.
+pub fn first(page: &mut [u8; 65536], at: usize, text: &[u8; 64], n: usize) -> usize {
+    let mut next = at;
+    let mut i: usize = 0;
+    while i < 64 {
+        if i < n {
+            next = put(page, next, text[i]);
+        }
         i += 1;
     }
     next

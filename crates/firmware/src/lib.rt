@@ -13,6 +13,7 @@ ghost use Rattle.runfile.specs.Run.{fileRegisters, fileChannel, answerRefusal, 
 ghost use Rattle.firmware.specs.RunTally.{ranTally};
 ghost use Rattle.firmware.specs.StepTally.{countsOf};
 ghost use Rattle.tally.specs.Tally.{countedStep};
+ghost use Rattle.words.specs.Sentence.{saidOf, sentenceOutput};
 use names::Card;
 use names::Register;
 use names::Task;
@@ -37,9 +38,9 @@ pub extern "C" fn gondzselu_channel_words() -> usize
 // The version of what is offered: major * 1,000,000 + minor * 1,000 + patch.
 #[no_mangle]
 pub extern "C" fn gondzselu_version() -> u32
-    ensures { λ r. ⌜ r ≡ 1000 ⌝ }
+    ensures { λ r. ⌜ r ≡ 2000 ⌝ }
 {
-    1000
+    2000
 }
 
 // ---- a whole run
@@ -197,6 +198,21 @@ pub extern "C" fn gondzselu_advance(
     let answer = store::advance(registers, channel, code, *argument);
     *value = answer.value;
     answer.result
+}
+
+// ---- words
+
+// The sentence for a step, counted from 0, and its refusal, at the start of an output: 0, or 36 for a number with no phrase, then 5 for an
+// output that is too short, both with the output as it was. The length is the text's, 0 where it is refused.
+#[no_mangle]
+pub extern "C" fn gondzselu_sentence(step: u32, refusal: u8, out: &mut [u8], length: &mut u32) -> u8
+    ensures output { λ _. ⌜ now (out .exit) ≡ sentenceOutput step refusal (now (out .entry)) ⌝ }
+    ensures length { λ _. ⌜ now (length .exit) ≡ saidOf step refusal (now (out .entry)) .length ⌝ }
+    ensures number { λ r. ⌜ r ≡ saidOf step refusal (now (out .entry)) .refusal ⌝ }
+{
+    let said = words::sentence(step, refusal, out);
+    *length = said.length;
+    said.refusal
 }
 
 // ---- what a panel reads

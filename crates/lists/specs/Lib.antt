@@ -1,5 +1,6 @@
 pub mod Tests
 pub mod Conjunctions
+pub mod All
 pub mod Every
 pub mod Loops
 pub mod Parts

@@ -2,24 +2,20 @@
 use console::put;
 use console::say;
 use console::tell_one;
-use console::word;
 
-// A phrase for each refusal of a step, by its number (RULES 8.2). 6 and 23 never come from a file (runfile, specs/FileRun).
-fn phrase(page: &mut [u8; 65536], at: usize, result: u32) -> usize {
-    word(
-        page,
-        at,
-        b";;;;;;;;;;unknown code;an unnamed byte is not zero;no such task;no such register;no such card;no such function;;;;;the task is not quiet;the task does not ask this or is not done;the copies lie otherwise;;;;;;;;outbox empty;no broadcast to take;nothing of that task in flight;inbox empty;some card would be too far behind;too many broadcasts in the inbox",
-        result,
-    )
+// The phrase of a refusal (docs/PHRASES.md).
+fn phrase(page: &mut [u8; 65536], at: usize, result: u8) -> usize {
+    let mut text = [0u8; 64];
+    let n = words::phrase(result, &mut text);
+    console::first(page, at, &text, n)
 }
 
-fn refused(page: &mut [u8; 65536], at: usize, result: u32) -> usize {
-    let a = tell_one(page, at, b"refused #: ", result);
+fn refused(page: &mut [u8; 65536], at: usize, result: u8) -> usize {
+    let a = tell_one(page, at, b"refused #: ", result as u32);
     phrase(page, a, result)
 }
 
-fn show(page: &mut [u8; 65536], at: usize, result: u32) -> usize {
+fn show(page: &mut [u8; 65536], at: usize, result: u8) -> usize {
     if result == 0 {
         return say(page, at, b"taken");
     }
@@ -27,7 +23,7 @@ fn show(page: &mut [u8; 65536], at: usize, result: u32) -> usize {
 }
 
 // What each task asked last: the code of its last request taken, so that a report of a read is known from one of an update.
-fn note(requests: &mut [u8; 16], code: u32, task: u32, result: u32) {
+fn note(requests: &mut [u8; 16], code: u32, task: u32, result: u8) {
     if result != 0 {
         return;
     }
@@ -38,7 +34,7 @@ fn note(requests: &mut [u8; 16], code: u32, task: u32, result: u32) {
 }
 
 // Whether the step is a taken report of a read.
-fn gave(requests: &[u8; 16], code: u32, task: u32, result: u32) -> bool {
+fn gave(requests: &[u8; 16], code: u32, task: u32, result: u8) -> bool {
     if result != 0 {
         return false;
     }
@@ -62,7 +58,7 @@ pub(crate) fn finish(
     requests: &mut [u8; 16],
     code: u32,
     task: u32,
-    result: u32,
+    result: u8,
     read: u32,
 ) -> usize {
     let a = show(page, at, result);

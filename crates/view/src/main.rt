@@ -52,7 +52,15 @@ fn step(
     let result = byte(out, 2 + wide(k));
     let value = number(out, 2 + wide(n) + 4 * wide(k));
     let a = asked::show(page, at, k, code, &argument, result);
-    answered::finish(page, a, requests, code, byte(&argument, 0), result, value)
+    answered::finish(
+        page,
+        a,
+        requests,
+        code,
+        byte(&argument, 0),
+        result as u8,
+        value,
+    )
 }
 
 fn steps(page: &mut [u8; 65536], at: usize, file: &[u8], out: &[u8], n: u32) -> usize {

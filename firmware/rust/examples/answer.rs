@@ -1,5 +1,6 @@
-//! Answers a run file: for each step its result and its value, then how many were taken and
-//! how many refused; of a refused file its number.
+//! Answers a run file: for each step that is taken its result and its value, for each that is
+//! refused a sentence, then how many were taken and how many refused; of a refused file its
+//! number.
 //!
 //!   cargo run --offline --example answer ../../examples/k9.run
 
@@ -9,7 +10,8 @@ use std::io::{self, BufWriter, Read, Write};
 use std::path::Path;
 use std::process::ExitCode;
 
-use gondzselu::{answer_counted, check_library, Tally, LONGEST_ANSWER, LONGEST_FILE};
+use gondzselu::{answer_counted, check_library, sentence, Refusal, Tally};
+use gondzselu::{LONGEST_ANSWER, LONGEST_FILE};
 
 /// The file, or as much of one that is too long as shows that it is.
 fn read(name: &Path) -> io::Result<Vec<u8>> {
@@ -27,9 +29,12 @@ fn write(file: &[u8], out: &mut impl Write) -> io::Result<()> {
         Err(refusal) => return writeln!(out, "refused: {}", refusal.number()),
     };
     let (results, values) = output[2..length].split_at((length - 2) / 5);
-    for (k, (result, value)) in results.iter().zip(values.chunks_exact(4)).enumerate() {
+    for (k, (&result, value)) in (0..).zip(results.iter().zip(values.chunks_exact(4))) {
         let value = u32::from_le_bytes([value[0], value[1], value[2], value[3]]);
-        writeln!(out, "step {k}: {result}, {value}")?;
+        match Refusal::from_number(result).and_then(|refusal| sentence(k, refusal)) {
+            Some(words) => writeln!(out, "{words}")?,
+            None => writeln!(out, "step {k}: {result}, {value}")?,
+        }
     }
     writeln!(out, "taken {}, refused {}", tally.taken, tally.refused)
 }

@@ -1,4 +1,5 @@
-//! Plays the steps of a run file one by one and says in words what became of each.
+//! Plays the steps of a run file one by one and says in words what became of each, and what it
+//! was.
 //!
 //!   cargo run --offline --example steps ../../examples/k9.run
 
@@ -7,7 +8,7 @@ use std::io::{self, Write};
 use std::path::Path;
 use std::process::ExitCode;
 
-use gondzselu::{Step, Store};
+use gondzselu::{sentence, Step, Store};
 
 /// Code and argument of each step of a file that the store accepted (RULES 3.1).
 fn steps(file: &[u8]) -> impl Iterator<Item = (u8, [u8; 8])> + '_ {
@@ -21,15 +22,18 @@ fn steps(file: &[u8]) -> impl Iterator<Item = (u8, [u8; 8])> + '_ {
 
 fn play(file: &[u8], out: &mut impl Write) -> Result<(), Box<dyn Error>> {
     let mut store = Store::start_from_file(file)?;
-    for (k, (code, argument)) in steps(file).enumerate() {
-        match Step::from_bytes(code, argument) {
-            Ok(step) => write!(out, "{k}: {step}: ")?,
-            Err(_) => write!(out, "{k}: code {code}, argument {argument:?}: ")?,
-        }
+    for (k, (code, argument)) in (0..).zip(steps(file)) {
         match store.step_bytes(code, argument) {
-            Ok(value) if code == 10 => writeln!(out, "taken, value {value}")?,
-            Ok(_) => writeln!(out, "taken")?,
-            Err(refusal) => writeln!(out, "refused, {refusal}")?,
+            Ok(value) if code == 10 => write!(out, "step {k}: taken, value {value}")?,
+            Ok(_) => write!(out, "step {k}: taken")?,
+            Err(refusal) => match sentence(k, refusal) {
+                Some(words) => write!(out, "{words}")?,
+                None => write!(out, "step {k}: {refusal}")?,
+            },
+        }
+        match Step::from_bytes(code, argument) {
+            Ok(step) => writeln!(out, " ({step})")?,
+            Err(_) => writeln!(out, " (code {code}, argument {argument:?})")?,
         }
     }
     Ok(out.flush()?)

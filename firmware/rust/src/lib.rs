@@ -42,7 +42,8 @@
 //! # Ok::<(), Refusal>(())
 //! ```
 //!
-//! A whole run file is answered by [`answer`].
+//! A whole run file is answered by [`answer`]. A refusal prints as a phrase; [`sentence()`] says it
+//! with the place of its step.
 //!
 //! # Memory
 //!
@@ -69,8 +70,8 @@
 //! It is found when the crate is built: `libgondzselu.a` in the folder that the variable
 //! `GONDZSELU_LIB_DIR` names, or else what `rt staticlib firmware` wrote in the repository
 //! (`target/staticlib/libfirmware.a`, the same library under the name that it is built by). Its
-//! version and the sizes of its memories are checked whenever a store is started or a file
-//! answered ([`check_library`]).
+//! version and the sizes of its memories are checked whenever a store is started, a file
+//! answered or a sentence asked for ([`check_library`]).
 
 #![no_std]
 #![deny(missing_docs, unsafe_code)]
@@ -82,6 +83,7 @@ mod limits;
 mod raw;
 mod refusal;
 mod run;
+mod sentence;
 mod step;
 mod store;
 
@@ -90,6 +92,7 @@ pub use library::{check_library, version, OtherLibrary, VERSION};
 pub use limits::*;
 pub use refusal::Refusal;
 pub use run::{answer, answer_counted, Tally};
+pub use sentence::{sentence, sentence_bytes, Sentence};
 pub use step::{Function, Step};
 pub use store::{Placement, Store};
 

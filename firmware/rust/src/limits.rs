@@ -1,4 +1,4 @@
-//! Sizes and limits (RULES 1.3, 3.2, 4.1, 7.8, 11.1).
+//! Sizes and limits (RULES 1.3, 3.2, 4.1, 7.8, 11.1, 14.6).
 
 /// The registers' memory of a store, in words of 32 bits.
 pub const REGISTERS_WORDS: usize = 1544;
@@ -27,6 +27,9 @@ pub const LONGEST_FILE: usize = 5 + MAX_TASKS + 2 * MAX_REGISTERS + 9 * MAX_STEP
 
 /// The bytes of the longest answer: an output of this length is never too short.
 pub const LONGEST_ANSWER: usize = 2 + 5 * MAX_STEPS;
+
+/// The bytes of the longest sentence: an output of this length is never too short for one.
+pub const SENTENCE_MAX: usize = 55;
 
 // As RULES has them in numbers.
 const _: () = assert!(LONGEST_FILE == 36_949 && LONGEST_ANSWER == 20_482);

@@ -68,6 +68,13 @@ extern "C" {
         value: *mut u32,
         tally: *mut Tally,
     ) -> u8;
+    fn gondzselu_sentence(
+        step: u32,
+        refusal: u8,
+        output: *mut u8,
+        output_length: usize,
+        length: *mut u32,
+    ) -> u8;
     fn gondzselu_copy(registers: *const u32, channel: *const u32, card: u32, register: u32) -> u32;
     fn gondzselu_task(registers: *const u32, channel: *const u32, task: u32) -> u32;
     fn gondzselu_task_value(registers: *const u32, channel: *const u32, task: u32) -> u32;
@@ -100,6 +107,14 @@ pub fn answer_counted(file: &[u8], output: &mut [u8], tally: &mut Tally) -> u8 {
     let (at, length) = (output.as_mut_ptr(), output.len());
     // SAFETY: two slices with their lengths, and a tally, which has the layout of the library's.
     unsafe { gondzselu_answer_counted(file.as_ptr(), file.len(), at, length, tally) }
+}
+
+/// The refusal and the length.
+pub fn sentence(step: u32, refusal: u8, output: &mut [u8]) -> (u8, u32) {
+    let (at, room, mut length) = (output.as_mut_ptr(), output.len(), 0);
+    // SAFETY: a slice with its length, and a place for the text's length.
+    let result = unsafe { gondzselu_sentence(step, refusal, at, room, &mut length) };
+    (result, length)
 }
 
 /// The two memories of a store. Whatever their words are, every method is safe.

@@ -3,15 +3,15 @@
 use core::error::Error;
 use core::fmt;
 
-/// Why a file, a placement, an output or a step was refused (RULES 8.2). A refusal changes
-/// nothing.
+/// Why a file, a placement, an output, a step or a sentence was refused (RULES 8.2). A refusal
+/// changes nothing.
 ///
 /// ```
 /// use gondzselu::Refusal;
 ///
 /// assert_eq!(Refusal::InboxEmpty.number(), 33);
 /// assert_eq!(Refusal::from_number(33), Some(Refusal::InboxEmpty));
-/// assert_eq!(Refusal::InboxEmpty.to_string(), "inbox empty");
+/// assert_eq!(Refusal::InboxEmpty.to_string(), "the card has nothing to deliver");
 /// ```
 #[derive(Clone, Copy, Debug, PartialEq, Eq, Hash)]
 pub enum Refusal {
@@ -24,7 +24,7 @@ pub enum Refusal {
     /// 4: a register has no copy, a copy or a home is on an absent card, or a primary has no
     /// copy.
     Misplaced,
-    /// 5: the output is shorter than the answer.
+    /// 5: the output is shorter than the answer or the sentence.
     OutputTooShort,
     /// 6: the state is ill sized, or the step would make it so. Never from a store that only
     /// this crate has written since its start.
@@ -61,6 +61,8 @@ pub enum Refusal {
     TooFarBehind,
     /// 35: take broadcast, and the card's inbox already has 32 undelivered broadcasts.
     TooManyUndelivered,
+    /// 36: a sentence, and the number is no refusal of a step.
+    NoPhrase,
     /// Any other number. The library answers none, with one exception:
     /// [`Store::advance`](crate::Store::advance) on an ill-sized store, where the answer means
     /// nothing. No number of the variants above is ever given in this one.
@@ -71,7 +73,7 @@ use Refusal::*;
 
 impl Refusal {
     /// All that RULES 8.2 lists, by rising number.
-    pub const ALL: [Refusal; 22] = [
+    pub const ALL: [Refusal; 23] = [
         FileTooShort,
         FileTooLong,
         SizeOutOfRange,
@@ -94,6 +96,7 @@ impl Refusal {
         InboxEmpty,
         TooFarBehind,
         TooManyUndelivered,
+        NoPhrase,
     ];
 
     /// The number, as in an answer file.
@@ -121,6 +124,7 @@ impl Refusal {
             InboxEmpty => 33,
             TooFarBehind => 34,
             TooManyUndelivered => 35,
+            NoPhrase => 36,
             Unknown(number) => number,
         }
     }
@@ -152,12 +156,14 @@ impl Refusal {
             33 => InboxEmpty,
             34 => TooFarBehind,
             35 => TooManyUndelivered,
+            36 => NoPhrase,
             _ => Unknown(number),
         })
     }
 }
 
-/// A short phrase, no two alike.
+/// A short phrase, no two alike. Those of the refusals of a step, 6 to 35, are the phrases of
+/// [`sentence`](crate::sentence()) (RULES 14.3).
 impl fmt::Display for Refusal {
     fn fmt(&self, f: &mut fmt::Formatter<'_>) -> fmt::Result {
         f.pad(match self {
@@ -166,23 +172,24 @@ impl fmt::Display for Refusal {
             SizeOutOfRange => "a size is out of range",
             Misplaced => "a copy, a home or a primary is misplaced",
             OutputTooShort => "the output is too short",
-            IllSized => "the state is ill sized",
-            UnknownCode => "unknown code",
-            UnnamedByte => "an unnamed byte is not zero",
-            AbsentTask => "no such task",
-            AbsentRegister => "no such register",
-            AbsentCard => "no such card",
-            UnknownFunction => "no such function",
-            NotQuiet => "the task is not quiet",
-            WrongCondition => "the task does not ask this or is not done",
-            CopiesLieOtherwise => "the copies lie otherwise",
-            NoRequestLeft => "no request is left",
-            OutboxEmpty => "outbox empty",
-            NoBroadcast => "no broadcast to take",
-            NothingInFlight => "nothing of that task in flight",
-            InboxEmpty => "inbox empty",
-            TooFarBehind => "some card would be too far behind",
-            TooManyUndelivered => "too many broadcasts in the inbox",
+            IllSized => "the store was changed from outside",
+            UnknownCode => "there is no such step",
+            UnnamedByte => "a byte that must be zero is not",
+            AbsentTask => "there is no such task",
+            AbsentRegister => "there is no such register",
+            AbsentCard => "there is no such card",
+            UnknownFunction => "there is no such function",
+            NotQuiet => "the task has an open request",
+            WrongCondition => "the task is not ready for this step",
+            CopiesLieOtherwise => "the copies do not allow this step",
+            NoRequestLeft => "no requests are left",
+            OutboxEmpty => "the card has nothing to send",
+            NoBroadcast => "the card has taken every broadcast",
+            NothingInFlight => "the task has nothing on the way",
+            InboxEmpty => "the card has nothing to deliver",
+            TooFarBehind => "a card is too many broadcasts behind",
+            TooManyUndelivered => "the card must deliver broadcasts first",
+            NoPhrase => "the number has no phrase",
             Unknown(number) => return write!(f, "no refusal of this store: {number}"),
         })
     }
@@ -210,7 +217,7 @@ mod tests {
     fn the_numbers_are_those_of_the_rules() {
         let numbers = Refusal::ALL.map(Refusal::number);
         let rules = [
-            1, 2, 3, 4, 5, 6, 10, 11, 12, 13, 14, 15, 20, 21, 22, 23, 30, 31, 32, 33, 34, 35,
+            1, 2, 3, 4, 5, 6, 10, 11, 12, 13, 14, 15, 20, 21, 22, 23, 30, 31, 32, 33, 34, 35, 36,
         ];
         assert_eq!(numbers, rules);
     }

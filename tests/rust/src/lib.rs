@@ -3,8 +3,9 @@
 //!
 //! `model` holds the rules, `named` the runs K1 to K13, `steps` the ten steps as bytes, `generate`
 //! makes files from a seed, `statistics` tells what files contain and what they must reach,
-//! `stored` and `view` have the files that the tree keeps (`folder`), `selfcheck` and `consistency`
-//! try the model itself, and `library` compares the store with it.
+//! `sentence` puts refusals into words, `stored`, `view` and `say` have the files that the tree
+//! keeps (`folder`), `selfcheck` and `consistency` try the model itself, and `library` compares the
+//! store with it.
 
 pub mod consistency;
 pub mod folder;
@@ -14,7 +15,9 @@ pub mod library;
 pub mod model;
 pub mod named;
 pub mod random;
+pub mod say;
 pub mod selfcheck;
+pub mod sentence;
 pub mod statistics;
 pub mod steps;
 pub mod stored;

@@ -1,9 +1,10 @@
 //! The proved store, linked as a static library (feature `library`), against the model: whole
-//! files, the same steps one by one, what a panel reads, and states made by hand.
+//! files, the same steps one by one, what a panel reads, states made by hand, and sentences.
 
 mod c;
 mod calls;
 pub mod memory;
+pub mod sentences;
 pub mod states;
 mod stretch;
 mod wild;
@@ -19,8 +20,8 @@ use crate::random::Random;
 use calls::Calls;
 use memory::shown;
 
-/// Version 0.1.0.
-const VERSION: u32 = 1_000;
+/// Version 0.2.0.
+const VERSION: u32 = 2_000;
 
 /// What lies in a lent output before.
 const FILL: u8 = 0xA5;

@@ -10,21 +10,28 @@ use gondzselu_model::library;
 use gondzselu_model::model::files::{program_output, RawStep, Run};
 use gondzselu_model::named;
 use gondzselu_model::random::Random;
+use gondzselu_model::say;
 use gondzselu_model::selfcheck::{check, Checked};
+use gondzselu_model::sentence::{sentence, PHRASES};
 use gondzselu_model::statistics::{self, Statistics};
 use gondzselu_model::stored;
-use gondzselu_model::view::{cases, view};
+use gondzselu_model::view;
 
 const USAGE: &str = "compare names                    K1 to K13: name, file and answer in hex
+compare sentences                a sentence for each refusal of a step; with the feature
+                                 library, after sentences-library
 compare view FILE                a run file and its answers in words
+compare say FILE                 the refused steps of an answer file in sentences
 compare generate SEED COUNT DIR  writes run files and the model's answers
 compare stored DIR               writes the runs that crates/runs keeps, with the model's answers
 compare views DIR                writes the runs that crates/view keeps, with what view prints
+compare says DIR                 writes the inputs that crates/say keeps, with what say prints
 compare statistics SEED COUNT    what generated files contain
 compare self SEED COUNT          checks the model against itself
 compare library SEED COUNT       compares the library on files (feature library)
 compare steps SEED COUNT         the same, step by step, with what the memories show
 compare states SEED COUNT        compares it on states made by hand, and on K1 to K13
+compare sentences-library        compares its sentences
 
 From COUNT 1,000 on, each also fails where the files miss something that they must reach: a
 refusal, a code or function taken, a kind of message delivered, a value, a size at its least or
@@ -35,10 +42,13 @@ fn main() -> ExitCode {
     let words: Vec<&str> = words.iter().map(String::as_str).collect();
     let result = match words[..] {
         ["names"] => names(),
-        ["view", file] => show(Path::new(file)),
+        ["sentences"] => sentences(),
+        ["view", file] => read(file).map(|file| print!("{}", view::view(&file))),
+        ["say", file] => say_file(file),
         ["generate", seed, count, directory] => write(seed, count, Path::new(directory)),
         ["stored", directory] => folder::write(Path::new(directory), &stored::files()),
-        ["views", directory] => folder::write(Path::new(directory), &cases::files()),
+        ["views", directory] => folder::write(Path::new(directory), &view::cases::files()),
+        ["says", directory] => folder::write(Path::new(directory), &say::cases::files()),
         ["statistics", seed, count] => each(seed, count, |_, _| Ok(())),
         ["self", seed, count] => self_checks(seed, count),
         #[cfg(feature = "library")]
@@ -49,6 +59,8 @@ fn main() -> ExitCode {
         }),
         #[cfg(feature = "library")]
         ["states", seed, count] => states(seed, count),
+        #[cfg(feature = "library")]
+        ["sentences-library"] => sentences_library(),
         _ => Err(format!("what?\n{USAGE}")),
     };
     match result {
@@ -91,9 +103,23 @@ fn names() -> Result<(), String> {
     Ok(())
 }
 
-fn show(path: &Path) -> Result<(), String> {
-    let file = std::fs::read(path).map_err(|error| format!("{}: {error}", path.display()))?;
-    print!("{}", view(&file));
+/// A line for each refusal of a step, of step 0. With the library, its sentences are compared first.
+fn sentences() -> Result<(), String> {
+    #[cfg(feature = "library")]
+    library::sentences::compare()?;
+    for (refusal, _) in PHRASES {
+        println!("{}", sentence(0, refusal).expect("a phrase"));
+    }
+    Ok(())
+}
+
+fn read(file: &str) -> Result<Vec<u8>, String> {
+    std::fs::read(file).map_err(|error| format!("{file}: {error}"))
+}
+
+fn say_file(file: &str) -> Result<(), String> {
+    let text = say::say(&read(file)?).map_err(|why| format!("say: {why}"))?;
+    print!("{text}");
     Ok(())
 }
 
@@ -173,4 +199,12 @@ fn states(seed: &str, count: &str) -> Result<(), String> {
         true => Ok(()),
         false => statistics::none_missing(missing),
     }
+}
+
+/// Every refusal, steps about every power of ten, outputs of every length.
+#[cfg(feature = "library")]
+fn sentences_library() -> Result<(), String> {
+    let library::sentences::Compared { steps, calls } = library::sentences::compare()?;
+    println!("sentences of {steps} steps and 256 refusals, {calls} calls");
+    Ok(())
 }

@@ -1,6 +1,6 @@
 //! A run file and its answers in words, as the program `view` prints them: written from
-//! crates/view/README.md and the model, not from the program. `cases` has the files that are kept
-//! in crates/view/cases.
+//! crates/view/README.md, docs/PHRASES.md and the model, not from the program. `cases` has the
+//! files that are kept in crates/view/cases.
 
 pub mod cases;
 
@@ -8,6 +8,7 @@ use crate::model::files::{RawStep, Run};
 use crate::model::placement::Placement;
 use crate::model::tally::Tally;
 use crate::model::{has, Refusal, State};
+use crate::sentence::PHRASES;
 
 /// By code, from 1.
 const NAMES: [&str; 10] = [
@@ -26,8 +27,8 @@ const NAMES: [&str; 10] = [
 /// By function, from 1.
 const FUNCTIONS: [&str; 4] = ["set", "add", "larger", "or"];
 
-/// What a file can be refused with, and a step of a file.
-pub const PHRASES: [(Refusal, &str); 19] = [
+/// What a file can be refused with. A step has the phrases of docs/PHRASES.md.
+pub const FILES: [(Refusal, &str); 4] = [
     (1, "too short for its sizes"),
     (2, "too long"),
     (3, "a size out of range"),
@@ -35,27 +36,12 @@ pub const PHRASES: [(Refusal, &str); 19] = [
         4,
         "no copy, a copy or home on an absent card, or a primary without a copy",
     ),
-    (10, "unknown code"),
-    (11, "an unnamed byte is not zero"),
-    (12, "no such task"),
-    (13, "no such register"),
-    (14, "no such card"),
-    (15, "no such function"),
-    (20, "the task is not quiet"),
-    (21, "the task does not ask this or is not done"),
-    (22, "the copies lie otherwise"),
-    (30, "outbox empty"),
-    (31, "no broadcast to take"),
-    (32, "nothing of that task in flight"),
-    (33, "inbox empty"),
-    (34, "some card would be too far behind"),
-    (35, "too many broadcasts in the inbox"),
 ];
 
 fn refused(refusal: Refusal) -> String {
-    let mut phrases = PHRASES.iter();
+    let mut phrases = FILES.iter().chain(&PHRASES);
     let phrase = phrases.find(|(number, _)| *number == refusal);
-    let (_, phrase) = phrase.expect("a refusal that a file can cause");
+    let (_, phrase) = phrase.expect("a refusal with a phrase");
     format!("refused {refusal}: {phrase}")
 }
 
@@ -146,6 +132,7 @@ fn asked((code, argument): RawStep, result: u8) -> String {
 #[cfg(test)]
 mod tests {
     use super::*;
+    use crate::folder;
     use crate::named;
 
     fn of(name: &str) -> String {
@@ -188,7 +175,7 @@ register  1  primary card 1  copies on 1
    9  send update     task   0                                  taken
   10  dispatch        card   0                                  taken
   11  take single     task   0                                  taken
-  12  deliver         card   1                                  refused 33: inbox empty
+  12  deliver         card   1                                  refused 33: the card has nothing to deliver
   13  take broadcast  card   1                                  taken
   14  deliver         card   1                                  taken
   15  deliver         card   1                                  taken
@@ -196,6 +183,16 @@ register  1  primary card 1  copies on 1
 taken 15, refused 1
 ";
         assert_eq!(of("K9"), k9);
+    }
+
+    /// What rt gives the program, and what it must print: K9.
+    #[test]
+    fn the_example_of_the_crate() {
+        let read = |name| std::fs::read(folder::of_tree("crates/view").join(name)).expect(name);
+        let mut runs = named::runs().into_iter();
+        let k9 = runs.find(|run| run.name == "K9").expect("a named run");
+        assert_eq!(read("stdin"), k9.file);
+        assert_eq!(read("stdout"), of("K9").into_bytes());
     }
 
     #[test]

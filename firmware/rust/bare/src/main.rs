@@ -9,7 +9,7 @@
 use core::panic::PanicInfo;
 use core::ptr::addr_of_mut;
 
-use gondzselu::{Condition, Function, Placement, Refusal, Step, Store, Tally};
+use gondzselu::{sentence, Condition, Function, Placement, Refusal, Step, Store, Tally};
 
 #[link(name = "c")]
 extern "C" {
@@ -89,6 +89,10 @@ fn play(store: &mut Store) -> i32 {
     let conditions = [0, 1, 2].map(|task| store.task(task));
     if conditions != [Condition::Waiting, Condition::Quiet, Condition::Waiting] {
         return 5;
+    }
+    let words = sentence(12, Refusal::InboxEmpty);
+    if words.as_deref() != Some("step 12: the card has nothing to deliver") {
+        return 6;
     }
     0
 }

@@ -1,0 +1,4 @@
+pub mod DecimalLaws
+pub mod PhraseLaws
+pub mod SentenceLaws
+pub mod TextLaws

@@ -1,0 +1,5 @@
+pub mod Bytes
+pub mod Decimal
+pub mod Phrases
+pub mod Sentence
+pub mod Meaning
