@@ -31,7 +31,7 @@ extern "C" {
 /* ---- version */
 
 #define GONDZSELU_VERSION_MAJOR 0
-#define GONDZSELU_VERSION_MINOR 2
+#define GONDZSELU_VERSION_MINOR 3
 #define GONDZSELU_VERSION_PATCH 0
 #define GONDZSELU_VERSION \
     (GONDZSELU_VERSION_MAJOR * 1000000 + GONDZSELU_VERSION_MINOR * 1000 + GONDZSELU_VERSION_PATCH)
@@ -96,10 +96,11 @@ enum gondzselu_code {
 
 /* What an update makes of a value and its operand (RULES 2). */
 enum gondzselu_function {
-    GONDZSELU_SET = 1,    /* the operand */
-    GONDZSELU_ADD = 2,    /* the sum modulo 2^32 */
-    GONDZSELU_LARGER = 3, /* the larger, unsigned */
-    GONDZSELU_OR = 4      /* the bitwise or */
+    GONDZSELU_SET = 1,                  /* the operand */
+    GONDZSELU_ADD_STAYS_AT_THE_TOP = 2, /* the sum, or 4,294,967,295 where that is smaller */
+    GONDZSELU_LARGER = 3,               /* the larger, unsigned */
+    GONDZSELU_OR = 4,                   /* the bitwise or */
+    GONDZSELU_ADD_COMES_ROUND = 5       /* the sum modulo 4,294,967,296 */
 };
 
 /* What a task is doing (RULES 1.8). */

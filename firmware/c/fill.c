@@ -28,6 +28,11 @@ int main(void) {
            gondzselu_fill_request_update(a, 2, 3, GONDZSELU_SET, 0x12345678));
     expect(2, "\xFF\xFE\x04\0\xFF\xFF\xFF\xFF",
            gondzselu_fill_request_update(a, 255, 254, GONDZSELU_OR, 0xFFFFFFFF));
+    expect(2, "\0\0\x02\0\x03\0\0\0",
+           gondzselu_fill_request_update(a, 0, 0, GONDZSELU_ADD_STAYS_AT_THE_TOP, 3));
+    expect(2, "\0\0\x03\0\x03\0\0\0", gondzselu_fill_request_update(a, 0, 0, GONDZSELU_LARGER, 3));
+    expect(2, "\0\0\x05\0\x03\0\0\0",
+           gondzselu_fill_request_update(a, 0, 0, GONDZSELU_ADD_COMES_ROUND, 3));
     expect(3, "\x01\0\0\0\0\0\0\0", gondzselu_fill_perform(a, 1));
     expect(4, "\x02\x07\0\0\0\0\0\0", gondzselu_fill_send_read(a, 2, 7));
     expect(5, "\x03\0\0\0\0\0\0\0", gondzselu_fill_send_update(a, 3));

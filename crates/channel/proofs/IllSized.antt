@@ -1,11 +1,11 @@
 -- A memory is ill sized exactly if one of the listed kinds holds: each test that fails is one of them, and a well-sized memory has none.
 use Prim.Native.Nat.{ℕ, _+_, _-_, _<_, _≤_, _^_, min}
 use mathlib.Core.Path.{_≡_, refl}
-use mathlib.Core.Logic.{_↔_}
+use mathlib.Core.Logic.{_↔_, _⊎_, inl, inr}
 use mathlib.Core.Bool.{Bool, true, false, _&&_, _||_}
 use mathlib.Core.List.{List}
 use native.Mathlib.Omega.{arith}
-use borrow.Author.Tests.{ltb-true, leb-true, ltb-false, leb-false}
+use borrow.Author.Tests.{leb-true, ltb-false, leb-false}
 use lib.Dec.{ltb, leb}
 use lib.ListN.{getD}
 use Rattle.lists.specs.Tests.{clash, false-of, and-fst, and-snd}
@@ -16,6 +16,7 @@ use Rattle.names.specs.declared.Body.the-variants.{ReadDo, UpdateDo, ReadReply,
 use Rattle.names.specs.declared.Letter.{Letter}
 use Rattle.names.specs.CardSet.{several, single}
 use Rattle.names.specs.Letters.{letterAt, kindAt, tagAt, known}
+use Rattle.names.proofs.KnownFunctions.{functions-unknown}
 use Rattle.channel.specs.Layout.{cardsWord, tasksWord, registersWord, cardsOf, tasksOf, registersOf, madeOf, takenOf, headOf, countOf, heldCountOf, placeOf, heldBlock, flightBlock, broadcastBlock}
 use Rattle.channel.specs.Letters.{addressed, fits}
 use Rattle.channel.specs.Begin.{sizesFit}
@@ -47,10 +48,11 @@ module _ (cs : List ℕ) (l : Letter) where
   body-fails : (b : Body) → l .message .body ≡ b → known b ≡ false → PastLimit cs l
   unfolding known
   body-fails ReadDo q e = absurd (clash refl e)
-  body-fails (UpdateDo f v) q e = and-fails (leb 1 f) (leb f 4) e (λ h. zero-is f (none f h) q) (λ h. unknown-function f v q (leb-false f 4 h))
+  body-fails (UpdateDo f v) q e = go (functions-unknown f .0 e)
     where
-      zero-is : (f : ℕ) → f ≡ 0 → l .message .body ≡ UpdateDo f v → PastLimit cs l
-      zero-is f z q = no-function v (rw z at q)
+      go : (f ≡ 0) ⊎ (5 < f) → PastLimit cs l
+      go (inl z) = no-function v (rw z at q)
+      go (inr h) = unknown-function f v q h
   body-fails (ReadReply v) q e = absurd (clash refl e)
   body-fails UpdateReply q e = absurd (clash refl e)
 
@@ -70,11 +72,8 @@ module _ (cs : List ℕ) (l : Letter) where
   unfolding known
   fits-none e (absent-task h) = omega (arith, fits-is cs l e .task)
   fits-none e (absent-register h) = omega (arith, fits-is cs l e .register)
-  fits-none e (no-function v q) = clash (rw q at (fits-is cs l e .body)) refl
-  fits-none e (unknown-function f v q h) =
-      let k : (leb 1 f && leb f 4) ≡ true = rw q at (fits-is cs l e .body) in
-      let m = leb-true f 4 (and-snd (leb 1 f) (leb f 4) k) in
-      omega arith
+  fits-none e (no-function v q) = clash (rw q at (fits-is cs l e .body)) (functions-unknown 0 .1 (inl refl))
+  fits-none e (unknown-function f v q h) = clash (rw q at (fits-is cs l e .body)) (functions-unknown f .1 (inr h))
   fits-none e (absent-sender h) = omega (arith, fits-is cs l e .sender)
   fits-none e (absent-destination h) = omega (arith, fits-is cs l e .present)
   fits-none e (no-destination h) = omega (arith, fits-is cs l e .someone)

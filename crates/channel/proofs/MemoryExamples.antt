@@ -16,6 +16,7 @@ use Rattle.channel.specs.declared.Received.the-variants.{Got}
 use Rattle.automaton.specs.Refusals.{channelRefusal}
 use Rattle.channel.specs.Layout.{cardsOf, tasksOf, registersOf}
 use Rattle.names.specs.Letters.{known}
+use Rattle.names.specs.Update.{knownFunction}
 use Rattle.channel.specs.Letters.{addressed, fits}
 use Rattle.channel.specs.Begin.{sizesFit, begun, beginMemory}
 use Rattle.channel.specs.Inbox.{receiveAnswer}
@@ -64,7 +65,7 @@ module _ (ws : List ℕ) where
       ∷ dispatchCall (card 2) shared 7 ∷ []
 
   pub k9-held : answersAfter start k9 ≡ 33 ∷ 0 ∷ 0 ∷ 0 ∷ 0 ∷ 0 ∷ []
-  unfolding refusalsAfter callRefusal channelRefusal fits addressed known cardsOf tasksOf registersOf beginMemory sizesFit begun several single soleOf sizeOf memberOf total turns each
+  unfolding refusalsAfter callRefusal channelRefusal fits addressed known knownFunction cardsOf tasksOf registersOf beginMemory sizesFit begun several single soleOf sizeOf memberOf total turns each
   k9-held = follows k9 .answers
 
   -- when card 1 has taken broadcast 1, two deliveries set 7, then 9
@@ -72,11 +73,11 @@ module _ (ws : List ℕ) where
   k9-taken = takeBroadcastCall (card 1) ∷ k9
 
   pub k9-first : receiveAnswer (memoryAfter start k9-taken) (card 1) ≡ Got shared
-  unfolding callRefusal channelRefusal fits addressed known cardsOf tasksOf registersOf beginMemory sizesFit begun several single soleOf sizeOf memberOf total turns each
+  unfolding callRefusal channelRefusal fits addressed known knownFunction cardsOf tasksOf registersOf beginMemory sizesFit begun several single soleOf sizeOf memberOf total turns each
   k9-first = follows k9-taken .hands (card 1)
 
   pub k9-second : receiveAnswer (memoryAfter start (receiveCall (card 1) ∷ k9-taken)) (card 1) ≡ Got only-there
-  unfolding callRefusal channelRefusal fits addressed known cardsOf tasksOf registersOf beginMemory sizesFit begun several single soleOf sizeOf memberOf total turns each
+  unfolding callRefusal channelRefusal fits addressed known knownFunction cardsOf tasksOf registersOf beginMemory sizesFit begun several single soleOf sizeOf memberOf total turns each
   k9-second = follows (receiveCall (card 1) ∷ k9-taken) .hands (card 1)
 
   -- K10: card 1 delivers broadcast 1, then replies to a read of task 0; the reply is held at card 0 until card 0 takes broadcast 1
@@ -86,16 +87,16 @@ module _ (ws : List ℕ) where
       ∷ takeBroadcastCall (card 1) ∷ dispatchCall (card 0) asks 2 ∷ dispatchCall (card 2) shared 7 ∷ []
 
   pub k10-held : answersAfter start k10 ≡ 33 ∷ 0 ∷ 0 ∷ 0 ∷ 0 ∷ 0 ∷ 0 ∷ 0 ∷ 0 ∷ []
-  unfolding refusalsAfter callRefusal channelRefusal fits addressed known cardsOf tasksOf registersOf beginMemory sizesFit begun several single soleOf sizeOf memberOf total turns each
+  unfolding refusalsAfter callRefusal channelRefusal fits addressed known knownFunction cardsOf tasksOf registersOf beginMemory sizesFit begun several single soleOf sizeOf memberOf total turns each
   k10-held = follows k10 .answers
 
   abbrev k10-taken : List Call
   k10-taken = takeBroadcastCall (card 0) ∷ k10
 
   pub k10-first : receiveAnswer (memoryAfter start k10-taken) (card 0) ≡ Got shared
-  unfolding callRefusal channelRefusal fits addressed known cardsOf tasksOf registersOf beginMemory sizesFit begun several single soleOf sizeOf memberOf total turns each
+  unfolding callRefusal channelRefusal fits addressed known knownFunction cardsOf tasksOf registersOf beginMemory sizesFit begun several single soleOf sizeOf memberOf total turns each
   k10-first = follows k10-taken .hands (card 0)
 
   pub k10-second : receiveAnswer (memoryAfter start (receiveCall (card 0) ∷ k10-taken)) (card 0) ≡ Got answers
-  unfolding callRefusal channelRefusal fits addressed known cardsOf tasksOf registersOf beginMemory sizesFit begun several single soleOf sizeOf memberOf total turns each
+  unfolding callRefusal channelRefusal fits addressed known knownFunction cardsOf tasksOf registersOf beginMemory sizesFit begun several single soleOf sizeOf memberOf total turns each
   k10-second = follows (receiveCall (card 0) ∷ k10-taken) .hands (card 0)

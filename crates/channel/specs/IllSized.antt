@@ -19,7 +19,7 @@ pub data PastLimit (cs : List ℕ) (l : Letter) : Type 0 where
   absent-task : tasksOf cs ≤ l .message .task .0 → PastLimit cs l
   absent-register : registersOf cs ≤ l .message .register .0 → PastLimit cs l
   no-function : (v : ℕ) → l .message .body ≡ UpdateDo 0 v → PastLimit cs l
-  unknown-function : (f v : ℕ) → l .message .body ≡ UpdateDo f v → 4 < f → PastLimit cs l
+  unknown-function : (f v : ℕ) → l .message .body ≡ UpdateDo f v → 5 < f → PastLimit cs l
   absent-sender : cardsOf cs ≤ l .from .0 → PastLimit cs l
   absent-destination : 2 ^ cardsOf cs ≤ l .to → PastLimit cs l
   no-destination : l .to ≡ 0 → PastLimit cs l

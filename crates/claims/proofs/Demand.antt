@@ -13,12 +13,13 @@ use Rattle.automaton.specs.TotalOrder.{rank}
 use Rattle.lists.specs.Filters.{Precedes, filter}
 use Rattle.lists.specs.Histories.{Any, In, Suf, here, stop, suf-any, suf-map, there}
 use Rattle.lists.specs.Queues.{Once}
+use Rattle.lists.specs.Made.{make}
 use Rattle.names.specs.Placement.{Placement, copy, placementRefusal, tasks}
 use Rattle.registers.proofs.Applied.{applied-in, in-applied}
 use Rattle.registers.proofs.Copies.{shown-applied}
 use Rattle.registers.proofs.Values.{serial-values}
 use Rattle.registers.specs.Events.{Gives, Reports}
-use Rattle.registers.specs.Explains.{Explains, ExplainsValues, Included, make, reported, somewhere, updatesOf}
+use Rattle.registers.specs.Explains.{Explains, ExplainsValues, Included, reported, somewhere, updatesOf}
 use Rattle.registers.specs.Key.{order}
 use Rattle.registers.specs.Layer.{Msg, Valid, Values, World, fun, run}
 use Rattle.claims.proofs.Executions.{Execution, execution-suf, holds-suf, joined, trace, trace-single, trace-step-suf, trace-take}

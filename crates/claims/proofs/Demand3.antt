@@ -12,9 +12,9 @@ use Rattle.lists.specs.Filters.{filter}
 use Rattle.lists.specs.Histories.{Any, In, Suf, any-map, any-nil, at-any, back, here, stop, suf-now, suf-trans, there}
 use Rattle.lists.specs.HistoryMaps.{any-into}
 use Rattle.lists.specs.Places.{nth}
+use Rattle.lists.specs.Made.{make}
 use Rattle.names.specs.Placement.{Placement, placementRefusal}
 use Rattle.names.specs.Update.{updated}
-use Rattle.registers.specs.Explains.{make}
 use Rattle.registers.specs.Layer.{unvalued}
 use Rattle.claims.proofs.Demand.{Demand3, IsReport, Tells, demand3}
 use Rattle.claims.proofs.Executions.{Holds, execution-suf, holds-suf, trace}

@@ -14,7 +14,7 @@ use Rattle.lists.specs.Loops.{total, turns}
 use Rattle.lists.specs.Queues.{push, push-cases}
 use Rattle.names.specs.CardSet.{justOf, memberOf, several, single, sizeOf, soleOf}
 use Rattle.names.specs.Placement.{copy}
-use Rattle.names.specs.Update.{largerOf, sumOf, updated}
+use Rattle.names.specs.Update.{knownFunction, largerOf, raised, sumOf, updated}
 use Rattle.claims.proofs.Fields.{just, one-copy, reported-listed, reportsOf}
 use Rattle.claims.proofs.NamedRuns.{tiny-accepted}
 use Rattle.claims.specs.Fields.{Field, Needed, Says, applied, copies, copy-values, once, only, reads, reported, tasks}
@@ -41,19 +41,19 @@ abbrev asked : List RawStep
 asked = add5 ∷ []
 
 asked-tells : reportsOf (paper tiny asked) ≡ []
-unfolding decode known unnamedZero taskThere registerThere cardThere functionThere namesTask namesCard namesRegister namesChosen namesFunction operand commandOf each memberOf several single sizeOf soleOf justOf total turns updated sumOf largerOf
+unfolding decode known unnamedZero taskThere registerThere cardThere functionThere knownFunction namesTask namesCard namesRegister namesChosen namesFunction operand commandOf each memberOf several single sizeOf soleOf justOf total turns updated raised largerOf sumOf
 asked-tells = refl
 
 asked-applies : (i : ℕ) → appliedOn tiny asked i ≡ []
-unfolding decode known unnamedZero taskThere registerThere cardThere functionThere namesTask namesCard namesRegister namesChosen namesFunction operand commandOf each memberOf several single sizeOf soleOf justOf total turns updated sumOf largerOf
+unfolding decode known unnamedZero taskThere registerThere cardThere functionThere knownFunction namesTask namesCard namesRegister namesChosen namesFunction operand commandOf each memberOf several single sizeOf soleOf justOf total turns updated raised largerOf sumOf
 asked-applies i = refl
 
 asked-shows : filter (updates tiny asked 0) (0 ∷ []) ≡ filter (updates tiny asked 0) (appliedOn tiny asked 0) ++ (0 ∷ [])
-unfolding decode known unnamedZero taskThere registerThere cardThere functionThere namesTask namesCard namesRegister namesChosen namesFunction operand commandOf each memberOf several single sizeOf soleOf justOf total turns updated sumOf largerOf
+unfolding decode known unnamedZero taskThere registerThere cardThere functionThere knownFunction namesTask namesCard namesRegister namesChosen namesFunction operand commandOf each memberOf several single sizeOf soleOf justOf total turns updated raised largerOf sumOf
 asked-shows = refl
 
 asked-value : table asked 0 0 ≡ madeOfZero tiny asked (filter (updates tiny asked 0) (appliedOn tiny asked 0))
-unfolding decode known unnamedZero taskThere registerThere cardThere functionThere namesTask namesCard namesRegister namesChosen namesFunction operand commandOf each memberOf several single sizeOf soleOf justOf total turns updated sumOf largerOf
+unfolding decode known unnamedZero taskThere registerThere cardThere functionThere knownFunction namesTask namesCard namesRegister namesChosen namesFunction operand commandOf each memberOf several single sizeOf soleOf justOf total turns updated raised largerOf sumOf
 asked-value = refl
 
 pub only-needed : Needed only
@@ -91,15 +91,15 @@ abbrev looked : List RawStep
 looked = step 1 (0 ∷ []) ∷ step 3 (0 ∷ []) ∷ step 10 (0 ∷ []) ∷ []
 
 looked-report : ReportedAt tiny looked 0 2
-unfolding decode known unnamedZero taskThere registerThere cardThere functionThere namesTask namesCard namesRegister namesChosen namesFunction operand commandOf each memberOf several single sizeOf soleOf justOf total turns updated sumOf largerOf
+unfolding decode known unnamedZero taskThere registerThere cardThere functionThere knownFunction namesTask namesCard namesRegister namesChosen namesFunction operand commandOf each memberOf several single sizeOf soleOf justOf total turns updated raised largerOf sumOf
 looked-report = record { before = step 1 (0 ∷ []) ∷ step 3 (0 ∷ []) ∷ []; it = step 10 (0 ∷ []); after = []; whole = refl; place= = refl; task = 0; taken = refl }
 
 looked-applies : (i : ℕ) → appliedOn tiny looked i ≡ []
-unfolding decode known unnamedZero taskThere registerThere cardThere functionThere namesTask namesCard namesRegister namesChosen namesFunction operand commandOf each memberOf several single sizeOf soleOf justOf total turns updated sumOf largerOf
+unfolding decode known unnamedZero taskThere registerThere cardThere functionThere knownFunction namesTask namesCard namesRegister namesChosen namesFunction operand commandOf each memberOf several single sizeOf soleOf justOf total turns updated raised largerOf sumOf
 looked-applies i = refl
 
 looked-value : table looked 0 0 ≡ madeOfZero tiny looked (filter (updates tiny looked 0) (appliedOn tiny looked 0))
-unfolding decode known unnamedZero taskThere registerThere cardThere functionThere namesTask namesCard namesRegister namesChosen namesFunction operand commandOf each memberOf several single sizeOf soleOf justOf total turns updated sumOf largerOf
+unfolding decode known unnamedZero taskThere registerThere cardThere functionThere knownFunction namesTask namesCard namesRegister namesChosen namesFunction operand commandOf each memberOf several single sizeOf soleOf justOf total turns updated raised largerOf sumOf
 looked-value = refl
 
 pub reported-needed : Needed reported
@@ -133,35 +133,35 @@ abbrev performed : List RawStep
 performed = add5 ∷ step 3 (0 ∷ []) ∷ []
 
 performed-tells : reportsOf (paper tiny performed) ≡ []
-unfolding decode known unnamedZero taskThere registerThere cardThere functionThere namesTask namesCard namesRegister namesChosen namesFunction operand commandOf each memberOf several single sizeOf soleOf justOf total turns updated sumOf largerOf
+unfolding decode known unnamedZero taskThere registerThere cardThere functionThere knownFunction namesTask namesCard namesRegister namesChosen namesFunction operand commandOf each memberOf several single sizeOf soleOf justOf total turns updated raised largerOf sumOf
 performed-tells = refl
 
 performed-applies : (i : ℕ) → appliedOn tiny performed i ≡ push (eqb i 0) 0 []
-unfolding decode known unnamedZero taskThere registerThere cardThere functionThere namesTask namesCard namesRegister namesChosen namesFunction operand commandOf each memberOf several single sizeOf soleOf justOf total turns updated sumOf largerOf
+unfolding decode known unnamedZero taskThere registerThere cardThere functionThere knownFunction namesTask namesCard namesRegister namesChosen namesFunction operand commandOf each memberOf several single sizeOf soleOf justOf total turns updated raised largerOf sumOf
 performed-applies i = refl
 
 performed-updates : (op tiny performed 0) .upd ≡ true
-unfolding decode known unnamedZero taskThere registerThere cardThere functionThere namesTask namesCard namesRegister namesChosen namesFunction operand commandOf each memberOf several single sizeOf soleOf justOf total turns updated sumOf largerOf
+unfolding decode known unnamedZero taskThere registerThere cardThere functionThere knownFunction namesTask namesCard namesRegister namesChosen namesFunction operand commandOf each memberOf several single sizeOf soleOf justOf total turns updated raised largerOf sumOf
 performed-updates = refl
 
 performed-shows : filter (updates tiny performed 0) (0 ∷ []) ≡ filter (updates tiny performed 0) (appliedOn tiny performed 0) ++ []
-unfolding decode known unnamedZero taskThere registerThere cardThere functionThere namesTask namesCard namesRegister namesChosen namesFunction operand commandOf each memberOf several single sizeOf soleOf justOf total turns updated sumOf largerOf
+unfolding decode known unnamedZero taskThere registerThere cardThere functionThere knownFunction namesTask namesCard namesRegister namesChosen namesFunction operand commandOf each memberOf several single sizeOf soleOf justOf total turns updated raised largerOf sumOf
 performed-shows = refl
 
 performed-twice : filter (updates tiny performed 0) (0 ∷ 0 ∷ []) ≡ filter (updates tiny performed 0) (appliedOn tiny performed 0) ++ (0 ∷ [])
-unfolding decode known unnamedZero taskThere registerThere cardThere functionThere namesTask namesCard namesRegister namesChosen namesFunction operand commandOf each memberOf several single sizeOf soleOf justOf total turns updated sumOf largerOf
+unfolding decode known unnamedZero taskThere registerThere cardThere functionThere knownFunction namesTask namesCard namesRegister namesChosen namesFunction operand commandOf each memberOf several single sizeOf soleOf justOf total turns updated raised largerOf sumOf
 performed-twice = refl
 
 performed-value : table performed 0 0 ≡ madeOfZero tiny performed (filter (updates tiny performed 0) (appliedOn tiny performed 0))
-unfolding decode known unnamedZero taskThere registerThere cardThere functionThere namesTask namesCard namesRegister namesChosen namesFunction operand commandOf each memberOf several single sizeOf soleOf justOf total turns updated sumOf largerOf
+unfolding decode known unnamedZero taskThere registerThere cardThere functionThere knownFunction namesTask namesCard namesRegister namesChosen namesFunction operand commandOf each memberOf several single sizeOf soleOf justOf total turns updated raised largerOf sumOf
 performed-value = refl
 
 performed-five : madeOfZero tiny performed (filter (updates tiny performed 0) (appliedOn tiny performed 0)) ≡ 5
-unfolding decode known unnamedZero taskThere registerThere cardThere functionThere namesTask namesCard namesRegister namesChosen namesFunction operand commandOf each memberOf several single sizeOf soleOf justOf total turns updated sumOf largerOf
+unfolding decode known unnamedZero taskThere registerThere cardThere functionThere knownFunction namesTask namesCard namesRegister namesChosen namesFunction operand commandOf each memberOf several single sizeOf soleOf justOf total turns updated raised largerOf sumOf
 performed-five = refl
 
 has-copy : copy tiny 0 0 ≡ true
-unfolding decode known unnamedZero taskThere registerThere cardThere functionThere namesTask namesCard namesRegister namesChosen namesFunction operand commandOf each memberOf several single sizeOf soleOf justOf total turns updated sumOf largerOf
+unfolding decode known unnamedZero taskThere registerThere cardThere functionThere knownFunction namesTask namesCard namesRegister namesChosen namesFunction operand commandOf each memberOf several single sizeOf soleOf justOf total turns updated raised largerOf sumOf
 has-copy = refl
 
 performed-none : {k n : ℕ} → ReportedAt tiny performed k n → ⊥

@@ -17,7 +17,7 @@ use Rattle.lists.specs.Queues.{push, push-cases}
 use Rattle.lists.specs.Tests.{clash}
 use Rattle.names.specs.CardSet.{justOf, memberOf, several, single, sizeOf, soleOf}
 use Rattle.names.specs.Placement.{Placement, copy, homePlaced, homesPlaced, placed, placementRefusal, registerPlaced, registersPlaced, sized, sizesInRange}
-use Rattle.names.specs.Update.{largerOf, sumOf, updated}
+use Rattle.names.specs.Update.{knownFunction, largerOf, raised, sumOf, updated}
 use Rattle.claims.proofs.Fields.{just, one-copy, one-of-two, reported-listed, reportsOf}
 use Rattle.claims.proofs.FieldsNeeded.{copy-values-needed, once-needed, only-needed, reported-needed}
 use Rattle.claims.proofs.ForcedAnswer.{reads-zero, reported-0, reported-1}
@@ -42,28 +42,28 @@ abbrev k2-table : ℕ → ℕ → ℕ
 k2-table = publishedRun tiny k2 .0 .table
 
 k2-tells : reportsOf (paper tiny k2) ≡ 1 ∷ 0 ∷ []
-unfolding decode known unnamedZero taskThere registerThere cardThere functionThere namesTask namesCard namesRegister namesChosen namesFunction operand commandOf each memberOf several single sizeOf soleOf justOf total turns updated sumOf largerOf
+unfolding decode known unnamedZero taskThere registerThere cardThere functionThere knownFunction namesTask namesCard namesRegister namesChosen namesFunction operand commandOf each memberOf several single sizeOf soleOf justOf total turns updated raised largerOf sumOf
 k2-tells = refl
 
 k2-applies : (i : ℕ) → appliedOn tiny k2 i ≡ push (eqb i 0) 0 []
-unfolding decode known unnamedZero taskThere registerThere cardThere functionThere namesTask namesCard namesRegister namesChosen namesFunction operand commandOf each memberOf several single sizeOf soleOf justOf total turns updated sumOf largerOf
+unfolding decode known unnamedZero taskThere registerThere cardThere functionThere knownFunction namesTask namesCard namesRegister namesChosen namesFunction operand commandOf each memberOf several single sizeOf soleOf justOf total turns updated raised largerOf sumOf
 k2-applies i = refl
 
 k2-update : (op tiny k2 0) .upd ≡ true
-unfolding decode known unnamedZero taskThere registerThere cardThere functionThere namesTask namesCard namesRegister namesChosen namesFunction operand commandOf each memberOf several single sizeOf soleOf justOf total turns updated sumOf largerOf
+unfolding decode known unnamedZero taskThere registerThere cardThere functionThere knownFunction namesTask namesCard namesRegister namesChosen namesFunction operand commandOf each memberOf several single sizeOf soleOf justOf total turns updated raised largerOf sumOf
 k2-update = refl
 
 k2-shows : (filter (updates tiny k2 0) (1 ∷ 0 ∷ []) ≡ filter (updates tiny k2 0) (appliedOn tiny k2 0) ++ [])
     × (filter (updates tiny k2 0) (0 ∷ 1 ∷ []) ≡ filter (updates tiny k2 0) (appliedOn tiny k2 0) ++ [])
-unfolding decode known unnamedZero taskThere registerThere cardThere functionThere namesTask namesCard namesRegister namesChosen namesFunction operand commandOf each memberOf several single sizeOf soleOf justOf total turns updated sumOf largerOf
+unfolding decode known unnamedZero taskThere registerThere cardThere functionThere knownFunction namesTask namesCard namesRegister namesChosen namesFunction operand commandOf each memberOf several single sizeOf soleOf justOf total turns updated raised largerOf sumOf
 k2-shows = (refl, refl)
 
 k2-value : k2-table 0 0 ≡ madeOfZero tiny k2 (filter (updates tiny k2 0) (appliedOn tiny k2 0))
-unfolding decode known unnamedZero taskThere registerThere cardThere functionThere namesTask namesCard namesRegister namesChosen namesFunction operand commandOf each memberOf several single sizeOf soleOf justOf total turns updated sumOf largerOf
+unfolding decode known unnamedZero taskThere registerThere cardThere functionThere knownFunction namesTask namesCard namesRegister namesChosen namesFunction operand commandOf each memberOf several single sizeOf soleOf justOf total turns updated raised largerOf sumOf
 k2-value = refl
 
 one-task : (op tiny k2 0) .task ≡ (op tiny k2 1) .task
-unfolding decode known unnamedZero taskThere registerThere cardThere functionThere namesTask namesCard namesRegister namesChosen namesFunction operand commandOf each memberOf several single sizeOf soleOf justOf total turns updated sumOf largerOf
+unfolding decode known unnamedZero taskThere registerThere cardThere functionThere knownFunction namesTask namesCard namesRegister namesChosen namesFunction operand commandOf each memberOf several single sizeOf soleOf justOf total turns updated raised largerOf sumOf
 one-task = refl
 
 -- the read gave what the updates of a list make of zero
@@ -71,11 +71,11 @@ abbrev Gave : ℕ → ℕ → List ℕ → Type 0
 Gave k n l = nth forgetful n ≡ some (record { result = 0; value = madeOfZero tiny k2 (filter (updates tiny k2 ((op tiny k2 k) .reg)) l) })
 
 gave-nothing : Gave 1 5 []
-unfolding decode known unnamedZero taskThere registerThere cardThere functionThere namesTask namesCard namesRegister namesChosen namesFunction operand commandOf each memberOf several single sizeOf soleOf justOf total turns updated sumOf largerOf
+unfolding decode known unnamedZero taskThere registerThere cardThere functionThere knownFunction namesTask namesCard namesRegister namesChosen namesFunction operand commandOf each memberOf several single sizeOf soleOf justOf total turns updated raised largerOf sumOf
 gave-nothing = refl
 
 five : madeOfZero tiny k2 (filter (updates tiny k2 ((op tiny k2 1) .reg)) (0 ∷ [])) ≡ 5
-unfolding decode known unnamedZero taskThere registerThere cardThere functionThere namesTask namesCard namesRegister namesChosen namesFunction operand commandOf each memberOf several single sizeOf soleOf justOf total turns updated sumOf largerOf
+unfolding decode known unnamedZero taskThere registerThere cardThere functionThere knownFunction namesTask namesCard namesRegister namesChosen namesFunction operand commandOf each memberOf several single sizeOf soleOf justOf total turns updated raised largerOf sumOf
 five = refl
 
 -- operation 1 is reported at step 5, and else only operation 0
@@ -193,27 +193,27 @@ abbrev two-table : ℕ → ℕ → ℕ
 two-table = publishedRun pair two .0 .table
 
 two-tells : reportsOf (paper pair two) ≡ []
-unfolding decode known unnamedZero taskThere registerThere cardThere functionThere namesTask namesCard namesRegister namesChosen namesFunction operand commandOf each memberOf several single sizeOf soleOf justOf total turns updated sumOf largerOf
+unfolding decode known unnamedZero taskThere registerThere cardThere functionThere knownFunction namesTask namesCard namesRegister namesChosen namesFunction operand commandOf each memberOf several single sizeOf soleOf justOf total turns updated raised largerOf sumOf
 two-tells = refl
 
 two-applies : (i : ℕ) → appliedOn pair two i ≡ push (eqb i 0) 1 (push (eqb i 0) 0 [])
-unfolding decode known unnamedZero taskThere registerThere cardThere functionThere namesTask namesCard namesRegister namesChosen namesFunction operand commandOf each memberOf several single sizeOf soleOf justOf total turns updated sumOf largerOf
+unfolding decode known unnamedZero taskThere registerThere cardThere functionThere knownFunction namesTask namesCard namesRegister namesChosen namesFunction operand commandOf each memberOf several single sizeOf soleOf justOf total turns updated raised largerOf sumOf
 two-applies i = refl
 
 two-ops : ((op pair two 0) .upd ≡ true) × ((op pair two 1) .upd ≡ true) × ((op pair two 0) .task ≡ 0) × ((op pair two 1) .task ≡ 1)
-unfolding decode known unnamedZero taskThere registerThere cardThere functionThere namesTask namesCard namesRegister namesChosen namesFunction operand commandOf each memberOf several single sizeOf soleOf justOf total turns updated sumOf largerOf
+unfolding decode known unnamedZero taskThere registerThere cardThere functionThere knownFunction namesTask namesCard namesRegister namesChosen namesFunction operand commandOf each memberOf several single sizeOf soleOf justOf total turns updated raised largerOf sumOf
 two-ops = (refl, refl, refl, refl)
 
 two-show : (filter (updates pair two 0) (1 ∷ 0 ∷ []) ≡ 1 ∷ 0 ∷ []) × (filter (updates pair two 0) (appliedOn pair two 0) ≡ 0 ∷ 1 ∷ [])
-unfolding decode known unnamedZero taskThere registerThere cardThere functionThere namesTask namesCard namesRegister namesChosen namesFunction operand commandOf each memberOf several single sizeOf soleOf justOf total turns updated sumOf largerOf
+unfolding decode known unnamedZero taskThere registerThere cardThere functionThere knownFunction namesTask namesCard namesRegister namesChosen namesFunction operand commandOf each memberOf several single sizeOf soleOf justOf total turns updated raised largerOf sumOf
 two-show = (refl, refl)
 
 two-value : two-table 0 0 ≡ madeOfZero pair two (filter (updates pair two 0) (appliedOn pair two 0))
-unfolding decode known unnamedZero taskThere registerThere cardThere functionThere namesTask namesCard namesRegister namesChosen namesFunction operand commandOf each memberOf several single sizeOf soleOf justOf total turns updated sumOf largerOf
+unfolding decode known unnamedZero taskThere registerThere cardThere functionThere knownFunction namesTask namesCard namesRegister namesChosen namesFunction operand commandOf each memberOf several single sizeOf soleOf justOf total turns updated raised largerOf sumOf
 two-value = refl
 
 has-copy : copy pair 0 0 ≡ true
-unfolding decode known unnamedZero taskThere registerThere cardThere functionThere namesTask namesCard namesRegister namesChosen namesFunction operand commandOf each memberOf several single sizeOf soleOf justOf total turns updated sumOf largerOf
+unfolding decode known unnamedZero taskThere registerThere cardThere functionThere knownFunction namesTask namesCard namesRegister namesChosen namesFunction operand commandOf each memberOf several single sizeOf soleOf justOf total turns updated raised largerOf sumOf
 has-copy = refl
 
 pub copies-needed : Needed copies

@@ -17,7 +17,7 @@ use Rattle.lists.specs.Places.{nth}
 use Rattle.lists.specs.Queues.{Once}
 use Rattle.names.specs.CardSet.{justOf, memberOf, several, single, sizeOf, soleOf}
 use Rattle.names.specs.Placement.{copy}
-use Rattle.names.specs.Update.{largerOf, sumOf, updated}
+use Rattle.names.specs.Update.{knownFunction, largerOf, raised, sumOf, updated}
 use Rattle.registers.specs.Key.{order}
 use Rattle.registers.specs.Layer.{answers}
 use Rattle.claims.specs.Ledger.{Op, opAt, readOp, updateOp}
@@ -30,19 +30,19 @@ use Rattle.claims.specs.Steps.{cardThere, commandOf, decode, functionThe
 -- ---- the ledger of K2
 
 ops-are : (book tiny k2) .ops ≡ updateOp tiny 0 0 2 5 ∷ readOp tiny 0 0 ∷ []
-unfolding decode known unnamedZero taskThere registerThere cardThere functionThere namesTask namesCard namesRegister namesChosen namesFunction operand commandOf each memberOf several single sizeOf soleOf justOf total turns updated sumOf largerOf
+unfolding decode known unnamedZero taskThere registerThere cardThere functionThere knownFunction namesTask namesCard namesRegister namesChosen namesFunction operand commandOf each memberOf several single sizeOf soleOf justOf total turns updated raised largerOf sumOf
 ops-are = refl
 
 applied-are : appliedOn tiny k2 0 ≡ 0 ∷ []
-unfolding decode known unnamedZero taskThere registerThere cardThere functionThere namesTask namesCard namesRegister namesChosen namesFunction operand commandOf each memberOf several single sizeOf soleOf justOf total turns updated sumOf largerOf
+unfolding decode known unnamedZero taskThere registerThere cardThere functionThere knownFunction namesTask namesCard namesRegister namesChosen namesFunction operand commandOf each memberOf several single sizeOf soleOf justOf total turns updated raised largerOf sumOf
 applied-are = refl
 
 pub reported-0 : ReportedAt tiny k2 0 2
-unfolding decode known unnamedZero taskThere registerThere cardThere functionThere namesTask namesCard namesRegister namesChosen namesFunction operand commandOf each memberOf several single sizeOf soleOf justOf total turns updated sumOf largerOf
+unfolding decode known unnamedZero taskThere registerThere cardThere functionThere knownFunction namesTask namesCard namesRegister namesChosen namesFunction operand commandOf each memberOf several single sizeOf soleOf justOf total turns updated raised largerOf sumOf
 reported-0 = record { before = take 2 k2; it = step 10 (0 ∷ []); after = drop 3 k2; whole = refl; place= = refl; task = 0; taken = refl }
 
 pub reported-1 : ReportedAt tiny k2 1 5
-unfolding decode known unnamedZero taskThere registerThere cardThere functionThere namesTask namesCard namesRegister namesChosen namesFunction operand commandOf each memberOf several single sizeOf soleOf justOf total turns updated sumOf largerOf
+unfolding decode known unnamedZero taskThere registerThere cardThere functionThere knownFunction namesTask namesCard namesRegister namesChosen namesFunction operand commandOf each memberOf several single sizeOf soleOf justOf total turns updated raised largerOf sumOf
 reported-1 = record { before = take 5 k2; it = step 10 (0 ∷ []); after = []; whole = refl; place= = refl; task = 0; taken = refl }
 
 abbrev both : List Op
@@ -58,24 +58,24 @@ only-zero (suc zero) e = absurd (false≢true e)
 only-zero (suc (suc k)) e = absurd (false≢true e)
 
 zero-updates : updates tiny k2 0 0 ≡ true
-unfolding decode known unnamedZero taskThere registerThere cardThere functionThere namesTask namesCard namesRegister namesChosen namesFunction operand commandOf each memberOf several single sizeOf soleOf justOf total turns updated sumOf largerOf
+unfolding decode known unnamedZero taskThere registerThere cardThere functionThere knownFunction namesTask namesCard namesRegister namesChosen namesFunction operand commandOf each memberOf several single sizeOf soleOf justOf total turns updated raised largerOf sumOf
 zero-updates = refl
 
 -- the two operations, and what operation 0 makes of 0
 one-task : (op tiny k2 0) .task ≡ (op tiny k2 1) .task
-unfolding decode known unnamedZero taskThere registerThere cardThere functionThere namesTask namesCard namesRegister namesChosen namesFunction operand commandOf each memberOf several single sizeOf soleOf justOf total turns updated sumOf largerOf
+unfolding decode known unnamedZero taskThere registerThere cardThere functionThere knownFunction namesTask namesCard namesRegister namesChosen namesFunction operand commandOf each memberOf several single sizeOf soleOf justOf total turns updated raised largerOf sumOf
 one-task = refl
 
 pub reads-zero : ((op tiny k2 1) .upd ≡ false) × ((op tiny k2 1) .reg ≡ 0)
-unfolding decode known unnamedZero taskThere registerThere cardThere functionThere namesTask namesCard namesRegister namesChosen namesFunction operand commandOf each memberOf several single sizeOf soleOf justOf total turns updated sumOf largerOf
+unfolding decode known unnamedZero taskThere registerThere cardThere functionThere knownFunction namesTask namesCard namesRegister namesChosen namesFunction operand commandOf each memberOf several single sizeOf soleOf justOf total turns updated raised largerOf sumOf
 reads-zero = (refl, refl)
 
 five : madeOfZero tiny k2 (0 ∷ []) ≡ 5
-unfolding decode known unnamedZero taskThere registerThere cardThere functionThere namesTask namesCard namesRegister namesChosen namesFunction operand commandOf each memberOf several single sizeOf soleOf justOf total turns updated sumOf largerOf
+unfolding decode known unnamedZero taskThere registerThere cardThere functionThere knownFunction namesTask namesCard namesRegister namesChosen namesFunction operand commandOf each memberOf several single sizeOf soleOf justOf total turns updated raised largerOf sumOf
 five = refl
 
 has-copy : copy tiny 0 0 ≡ true
-unfolding decode known unnamedZero taskThere registerThere cardThere functionThere namesTask namesCard namesRegister namesChosen namesFunction operand commandOf each memberOf several single sizeOf soleOf justOf total turns updated sumOf largerOf
+unfolding decode known unnamedZero taskThere registerThere cardThere functionThere knownFunction namesTask namesCard namesRegister namesChosen namesFunction operand commandOf each memberOf several single sizeOf soleOf justOf total turns updated raised largerOf sumOf
 has-copy = refl
 
 pub k2-forced : (answers : List Answer) (table : ℕ → ℕ → ℕ) → Explained tiny k2 answers table → (nth answers 5 ≡ some (record { result = 0; value = 5 })) × (table 0 0 ≡ 5)

@@ -5,6 +5,7 @@ use mathlib.Core.List.{List, [], _∷_}
 use native.Mathlib.Omega.{arith}
 use lib.ListN.{getD}
 use Rattle.names.specs.Placement.{Placement, placement}
+use Rattle.names.specs.Update.{knownFunction}
 use Rattle.claims.specs.Command.{request-update}
 use Rattle.claims.specs.Steps.{Decoded, good, RawStep, namesTask, namesCard, namesRegister, namesChosen, namesFunction, operand, unnamedZero, known, commandOf, taskThere, registerThere, cardThere, functionThere, decode}
 
@@ -19,5 +20,5 @@ one = placement 1 (0 ∷ []) (1 ∷ []) (0 ∷ [])
 
 -- operand bytes 1, 2, 3, 4 are 0x04030201
 pub operand-computed : decode one (record { code = 2; argument = 0 ∷ 0 ∷ 2 ∷ 0 ∷ 1 ∷ 2 ∷ 3 ∷ 4 ∷ [] }) ≡ good (request-update 0 0 2 67305985)
-unfolding namesTask namesCard namesRegister namesChosen namesFunction operand unnamedZero known commandOf taskThere registerThere cardThere functionThere decode
+unfolding namesTask namesCard namesRegister namesChosen namesFunction operand unnamedZero known commandOf taskThere registerThere cardThere functionThere knownFunction decode
 operand-computed = refl

@@ -9,6 +9,7 @@ use mathlib.Core.Path.{ap, refl, subst, sym, _∙_, _≡_}
 use native.Mathlib.Omega.{arith}
 use Rattle.lists.specs.Histories.{back}
 use Rattle.lists.specs.Tests.{and-false, and-fst, and-intro, and-snd, eqb-of}
+use Rattle.names.proofs.KnownFunctions.{functions-unknown}
 use Rattle.names.specs.Placement.{Placement, registers, tasks}
 use Rattle.claims.proofs.NumbersExact.{number-exact}
 use Rattle.claims.proofs.StepNumbers.{card-missing, card-names, clean-of, code-known, code-unknown, dirty-of, four-names, function-missing, is-false, known-code, register-missing, register-names, task-missing, task-names, two-names, unnamed-zero}
@@ -106,10 +107,9 @@ module _ (P : Placement) (a : RawStep) where
   unfolding cardThere
   card-none d e = rw (d, e)
 
-  function-false : namesFunction (a .code) ≡ true → (byte a 2 ≡ 0) ⊎ (4 < byte a 2) → functionThere P a ≡ false
+  function-false : namesFunction (a .code) ≡ true → (byte a 2 ≡ 0) ⊎ (5 < byte a 2) → functionThere P a ≡ false
   unfolding functionThere
-  function-false e (inl h) = rw (e, lt-leb 1 (byte a 2) (omega arith))
-  function-false e (inr h) = rw (e, lt-leb (byte a 2) 4 h) (and-false (leb 1 (byte a 2)))
+  function-false e h = rw (e, functions-unknown (byte a 2) .1 h)
 
   unknown-code : (n : ℕ) → a .code ≡ n → known n ≡ false → decode P a ≡ bad 10
   unfolding decode

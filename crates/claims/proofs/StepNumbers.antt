@@ -9,6 +9,7 @@ use mathlib.Core.Path.{ap₂, refl, subst, sym, _≡_}
 use native.Mathlib.Omega.{arith}
 use Rattle.lists.specs.Histories.{In, any-nil, here, there}
 use Rattle.lists.specs.Tests.{and-fst, and-intro, and-snd, bool, clash, eqb-not}
+use Rattle.names.proofs.KnownFunctions.{functions-unknown}
 use Rattle.names.specs.Placement.{Placement, registers, tasks}
 use Rattle.claims.specs.Numbers.{Clean, Known, Misformed, OfCard, OfRegister, OfTask, Unnamed, at-1, at-2, at-3, at-4, at-5, at-6, at-7, byte, code-high, code-zero, no-card, no-chosen, no-function, no-register, no-task}
 use Rattle.claims.specs.Steps.{RawStep, among, cardThere, functionThere, known, namesCard, namesChosen, namesFunction, namesRegister, namesTask, registerThere, taskThere, unnamedZero, zeros}
@@ -276,8 +277,4 @@ module _ (P : Placement) (a : RawStep) where
   function-missing h t u e =
       let r = not-or (eqb (a .code) 2) _ e in
       let n = eqb-true (a .code) 2 (r .0) in
-      no-function h n (task-present t (two-names n .task=)) (register-present u (two-names n .register=)) (go (leb 1 (byte a 2)) refl (r .1))
-    where
-      go : (t : Bool) → leb 1 (byte a 2) ≡ t → (t && leb (byte a 2) 4) ≡ false → (byte a 2 ≡ 0) ⊎ (4 < byte a 2)
-      go true p q = inr (leb-false _ _ q)
-      go false p q = let l = leb-false 1 (byte a 2) p in inl (omega arith)
+      no-function h n (task-present t (two-names n .task=)) (register-present u (two-names n .register=)) (functions-unknown (byte a 2) .0 (r .1))

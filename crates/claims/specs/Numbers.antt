@@ -69,12 +69,12 @@ module _ (P : Placement) (a : RawStep) where
     code-high : 10 < a .code → Misformed 10
     -- 11: a byte that the code does not name is not zero
     unnamed : Known a → (k : ℕ) → Unnamed (a .code) k → ¬ (byte a k ≡ 0) → Misformed 11
-    -- 12 the task, 13 the register, 14 the card is absent; 15: the function is not 1 to 4
+    -- 12 the task, 13 the register, 14 the card is absent; 15: the function is not 1 to 5
     no-task : Clean a → OfTask (a .code) → tasks P ≤ byte a 0 → Misformed 12
     no-register : Clean a → OfRegister (a .code) → byte a 0 < tasks P → registers P ≤ byte a 1 → Misformed 13
     no-card : Clean a → OfCard (a .code) → P .cards ≤ byte a 0 → Misformed 14
     no-chosen : Clean a → a .code ≡ 4 → byte a 0 < tasks P → P .cards ≤ byte a 1 → Misformed 14
-    no-function : Clean a → a .code ≡ 2 → byte a 0 < tasks P → byte a 1 < registers P → (byte a 2 ≡ 0) ⊎ (4 < byte a 2) → Misformed 15
+    no-function : Clean a → a .code ≡ 2 → byte a 0 < tasks P → byte a 1 < registers P → (byte a 2 ≡ 0) ⊎ (5 < byte a 2) → Misformed 15
 
 -- ---- 20 to 35, then 6
 

@@ -13,9 +13,9 @@ use Rattle.lists.specs.Histories.{In}
 use Rattle.lists.specs.Places.{nth}
 use Rattle.lists.specs.Queues.{Once}
 use Rattle.lists.specs.Filters.{filter, Precedes}
+use Rattle.lists.specs.Made.{make}
 use Rattle.names.specs.Update.{updated}
 use Rattle.names.specs.Placement.{Placement, copy}
-use Rattle.registers.specs.Explains.{make}
 use Rattle.claims.specs.Steps.{RawStep}
 use Rattle.claims.specs.Ledger.{Op, opAt}
 use Rattle.claims.specs.Paper.{Ledger, Action, report, ledger, paper}

@@ -7,6 +7,7 @@ use lib.Dec.{eqb, leb, ltb}
 use lib.ListN.{getD}
 pub use Rattle.names.specs.Step.{RawStep}
 use Rattle.names.specs.Placement.{Placement, tasks, registers}
+use Rattle.names.specs.Update.{knownFunction}
 use Rattle.claims.specs.Command.{Command, request-read, request-update, perform, send-read, send-update, dispatch, takeBroadcast, takeSingle, deliver, report}
 
 pub data Decoded : Type 0 where
@@ -75,7 +76,7 @@ commandOf n a =
     (report (getD a 0 0))))))))))
 
 module _ (P : Placement) where
-  -- 12 task, 13 register, 14 card absent (RULES 1.3); 15: the function is not 1 to 4 (2.5)
+  -- 12 task, 13 register, 14 card absent (RULES 1.3); 15: the function is not 1 to 5 (2.6)
   unfoldable pub taskThere : RawStep → Bool
   taskThere s = not (namesTask (s .code)) || ltb (getD (s .argument) 0 0) (tasks P)
 
@@ -88,7 +89,7 @@ module _ (P : Placement) where
       && (not (namesChosen (s .code)) || ltb (getD (s .argument) 1 0) (P .cards))
 
   unfoldable pub functionThere : RawStep → Bool
-  functionThere s = not (namesFunction (s .code)) || (leb 1 (getD (s .argument) 2 0) && leb (getD (s .argument) 2 0) 4)
+  functionThere s = not (namesFunction (s .code)) || knownFunction (getD (s .argument) 2 0)
 
   -- the lowest of 10 to 15 that applies
   unfoldable pub decode : RawStep → Decoded

@@ -12,6 +12,7 @@ use lib.Dec.{eqb, ltb, leb}
 use lib.ListN.{getD}
 use Rattle.lists.specs.Tests.{and-false, past}
 use Rattle.names.specs.Placement.{Placement, tasks, registers}
+use Rattle.names.specs.Update.{knownFunction}
 use Rattle.claims.specs.Command.{request-read, request-update, perform, send-read, send-update, dispatch, takeBroadcast, takeSingle, deliver, report}
 use Rattle.claims.specs.Command as K
 use Rattle.claims.specs.Steps.{bad, good, need, zeros, namesTask, namesCard, namesRegister, namesChosen, namesFunction, operand, unnamedZero, known, commandOf, taskThere, registerThere, cardThere, functionThere, decode}
@@ -77,15 +78,13 @@ three m true true false C h = rw (ne-eqb m 0 h)
 three m true false d C h = refl
 three m false c d C h = refl
 
-five : (b c d e f : Bool) (C : Command)
-    → decodedShown (decided (cond b (cond c (cond d (cond e (cond f 0 15) 15) 13) 12) 11) C) ≡ need b 11 (need c 12 (need d 13 (need (e && f) 15 (good (commandShown C)))))
+four : (b c d e : Bool) (C : Command) → decodedShown (decided (cond b (cond c (cond d (cond e 0 15) 13) 12) 11) C) ≡ need b 11 (need c 12 (need d 13 (need e 15 (good (commandShown C)))))
 unfolding decided
-five true true true true true C = refl
-five true true true true false C = refl
-five true true true false f C = refl
-five true true false e f C = refl
-five true false d e f C = refl
-five false c d e f C = refl
+four true true true true C = refl
+four true true true false C = refl
+four true true false e C = refl
+four true false d e C = refl
+four false c d e C = refl
 
 and-true : (b : Bool) → (b && true) ≡ b
 and-true true = refl
@@ -112,7 +111,7 @@ module _ (P : Placement) (a : List ℕ) where
 
   at-2 : at 2
   unfolding decodeOf decode known unnamedZero taskThere registerThere cardThere functionThere namesTask namesCard namesRegister namesChosen namesFunction commandOf updateNumber operandIn operand
-  at-2 = five (eqb (getD a 3 0) 0) (ltb (getD a 0 0) (tasks P)) (ltb (getD a 1 0) (registers P)) (leb 1 (getD a 2 0)) (leb (getD a 2 0) 4)
+  at-2 = four (eqb (getD a 3 0) 0) (ltb (getD a 0 0) (tasks P)) (ltb (getD a 1 0) (registers P)) (knownFunction (getD a 2 0))
       (RequestUpdate (taskIn a) (registerIn a) (functionIn a) (operandIn a))
 
   at-3 : at 3
@@ -188,7 +187,7 @@ module _ (P : Placement) (a : List ℕ) where
 module _ (cards registers tasks : ℕ) where
   abbrev pub InRange : Decoded → Type 0
   InRange (Good (RequestRead t x)) = (t .0 < tasks) × (x .0 < registers)
-  InRange (Good (RequestUpdate t x f w)) = (t .0 < tasks) × (x .0 < registers) × (leb 1 f ≡ true) × (leb f 4 ≡ true)
+  InRange (Good (RequestUpdate t x f w)) = (t .0 < tasks) × (x .0 < registers) × (knownFunction f ≡ true)
   InRange (Good (Perform t)) = t .0 < tasks
   InRange (Good (SendRead t j)) = (t .0 < tasks) × (j .0 < cards)
   InRange (Good (SendUpdate t)) = t .0 < tasks
@@ -217,15 +216,13 @@ module _ (cards registers tasks : ℕ) where
   range-three m true false d C h f = λ e. absurd (omega arith)
   range-three m false c d C h f = λ e. absurd (omega arith)
 
-  range-five : (b c d e g : Bool) (C : Command) → (c ≡ true → d ≡ true → e ≡ true → g ≡ true → InRange (Good C))
-      → InRange (decided (cond b (cond c (cond d (cond e (cond g 0 15) 15) 13) 12) 11) C)
+  range-four : (b c d e : Bool) (C : Command) → (c ≡ true → d ≡ true → e ≡ true → InRange (Good C)) → InRange (decided (cond b (cond c (cond d (cond e 0 15) 13) 12) 11) C)
   unfolding decided
-  range-five true true true true true C f = f refl refl refl refl
-  range-five true true true true false C f = λ q. absurd (omega arith)
-  range-five true true true false g C f = λ q. absurd (omega arith)
-  range-five true true false e g C f = λ q. absurd (omega arith)
-  range-five true false d e g C f = λ q. absurd (omega arith)
-  range-five false c d e g C f = λ q. absurd (omega arith)
+  range-four true true true true C f = f refl refl refl
+  range-four true true true false C f = λ q. absurd (omega arith)
+  range-four true true false e C f = λ q. absurd (omega arith)
+  range-four true false d e C f = λ q. absurd (omega arith)
+  range-four false c d e C f = λ q. absurd (omega arith)
 
   task-range : (a : List ℕ) (C : Command) → (getD a 0 0 < tasks → InRange (Good C)) → InRange (decided (taskNumber a tasks) C)
   unfolding aloneNumber
@@ -247,8 +244,8 @@ module _ (cards registers tasks : ℕ) where
 
   update-range : (a : List ℕ) → InRange (decided (updateNumber a registers tasks) (RequestUpdate (taskIn a) (registerIn a) (functionIn a) (operandIn a)))
   unfolding updateNumber
-  update-range a = range-five (eqb (getD a 3 0) 0) (ltb (getD a 0 0) tasks) (ltb (getD a 1 0) registers) (leb 1 (getD a 2 0)) (leb (getD a 2 0) 4)
-      (RequestUpdate (taskIn a) (registerIn a) (functionIn a) (operandIn a)) (λ c d e g. (ltb-true _ _ c, ltb-true _ _ d, e, g))
+  update-range a = range-four (eqb (getD a 3 0) 0) (ltb (getD a 0 0) tasks) (ltb (getD a 1 0) registers) (knownFunction (getD a 2 0))
+      (RequestUpdate (taskIn a) (registerIn a) (functionIn a) (operandIn a)) (λ c d e. (ltb-true _ _ c, ltb-true _ _ d, e))
 
   pub decode-range : (code : ℕ) (a : List ℕ) → InRange (decodeOf code a cards registers tasks)
   unfolding decodeOf

@@ -3,11 +3,12 @@
 use Prim.Native.Nat.{ℕ, zero, suc, _+_, _*_}
 use mathlib.Core.Bool.{Bool, true, false, cond, _&&_}
 use mathlib.Core.List.{List}
-use lib.Dec.{eqb, ltb, leb}
+use lib.Dec.{eqb, ltb}
 use lib.ListN.{getD}
 use Rattle.names.specs.declared.Card.{Card}
 use Rattle.names.specs.declared.Task.{Task}
 use Rattle.names.specs.declared.Register.{Register}
+use Rattle.names.specs.Update.{knownFunction}
 use Rattle.commands.specs.declared.Command.{Command}
 use Rattle.commands.specs.declared.Command.the-variants.{RequestRead, RequestUpdate, Perform, SendRead, SendUpdate, Dispatch, TakeBroadcast, TakeSingle, Deliver, Report}
 use Rattle.commands.specs.declared.Decoded.{Decoded}
@@ -44,7 +45,7 @@ restZero a = eqb (byteOf a 2) 0 && eqb (byteOf a 3) 0 && eqb (byteOf a 4) 0 && e
 unfoldable pub decided : ℕ → Command → Decoded
 decided n c = cond (eqb n 0) (Good c) (Bad n)
 
--- 11: a byte that is not named is not zero; 12 task, 13 register, 14 card absent; 15: the function is not 1 to 4
+-- 11: a byte that is not named is not zero; 12 task, 13 register, 14 card absent; 15: the function is not 1 to 5
 
 -- byte 0 alone is named, one of so many: 11, then the number of what it names
 unfoldable pub aloneNumber : List ℕ → ℕ → ℕ → ℕ
@@ -74,7 +75,7 @@ updateNumber a registers tasks =
     cond (eqb (byteOf a 3) 0)
     (cond (ltb (byteOf a 0) tasks)
     (cond (ltb (byteOf a 1) registers)
-    (cond (leb 1 (byteOf a 2)) (cond (leb (byteOf a 2) 4) 0 15) 15)
+    (cond (knownFunction (byteOf a 2)) 0 15)
     13)
     12)
     11

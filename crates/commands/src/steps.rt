@@ -9,6 +9,7 @@ use crate::Decoded;
 use names::Card;
 use names::Register;
 use names::Task;
+use names::known_function;
 
 // A byte of the argument.
 fn byte(argument: [u8; 8], k: usize) -> u32
@@ -93,10 +94,7 @@ fn update_number(argument: [u8; 8], registers: u32, tasks: u32) -> u8
     if registers <= byte(argument, 1) {
         return 13;
     }
-    if byte(argument, 2) < 1 {
-        return 15;
-    }
-    if 4 < byte(argument, 2) {
+    if !known_function(byte(argument, 2)) {
         return 15;
     }
     0

@@ -38,9 +38,9 @@ pub extern "C" fn gondzselu_channel_words() -> usize
 // The version of what is offered: major * 1,000,000 + minor * 1,000 + patch.
 #[no_mangle]
 pub extern "C" fn gondzselu_version() -> u32
-    ensures { λ r. ⌜ r ≡ 2000 ⌝ }
+    ensures { λ r. ⌜ r ≡ 3000 ⌝ }
 {
-    2000
+    3000
 }
 
 // ---- a whole run

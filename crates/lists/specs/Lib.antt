@@ -3,6 +3,7 @@ pub mod Conjunctions
 pub mod All
 pub mod Every
 pub mod Loops
+pub mod Made
 pub mod Parts
 pub mod Listings
 pub mod Places

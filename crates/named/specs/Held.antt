@@ -8,7 +8,8 @@ use Rattle.automaton.specs.State.{Tagged}
 use Rattle.claims.specs.Published.{Published, begin}
 use Rattle.claims.specs.PublishedRun.{finalFrom}
 use Rattle.runfile.specs.RunFile.{placementIn, runFileIn}
-use Rattle.named.specs.Table.{NamedRun, k9, k10, two-held}
+use Rattle.named.specs.NamedRun.{NamedRun}
+use Rattle.named.specs.Table.{k9, k10, two-held}
 
 -- the published state after the first n steps of a run
 abbrev pub stateAfter : NamedRun → ℕ → Published

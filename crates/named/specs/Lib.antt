@@ -1,2 +1,4 @@
+pub mod NamedRun
+pub mod Counter
 pub mod Table
 pub mod Held

@@ -1,15 +1,10 @@
--- The named runs K1 to K10 (RULES 13) and one more: the bytes of each file, and of its answer.
--- A longer file has a line for its sizes, its homes, copies and primaries, its codes, and each argument; its answer one for N, the results
--- and each value.
-use Prim.Native.Nat.{ℕ}
+-- The named runs K1 to K10 (RULES 13) and two more: the bytes of each file, and of its answer.
 use mathlib.Core.Path.{_≡_}
 use mathlib.Core.List.{List, [], _∷_}
 use Rattle.lists.specs.Histories.{In}
 use Rattle.runfile.specs.Run.{answerOf}
-
-pub record NamedRun : Type 0 where
-  pub file : List ℕ
-  pub answer : List ℕ
+use Rattle.named.specs.NamedRun.{NamedRun}
+use Rattle.named.specs.Counter.{counter}
 
 -- K1, the smallest file: no steps
 abbrev pub k1 : NamedRun
@@ -262,7 +257,7 @@ two-held = record {
 
 -- all of them
 abbrev pub table : List NamedRun
-table = k1 ∷ k2 ∷ k3 ∷ k4 ∷ k4-eight ∷ k5 ∷ k6 ∷ k7 ∷ k8 ∷ k9 ∷ k10 ∷ two-held ∷ []
+table = k1 ∷ k2 ∷ k3 ∷ k4 ∷ k4-eight ∷ k5 ∷ k6 ∷ k7 ∷ k8 ∷ k9 ∷ k10 ∷ two-held ∷ counter ∷ []
 
 -- they are proved together, in one table (RULES 13.1)
 abbrev pub NamedRuns : Type 0

@@ -1,13 +1,14 @@
 -- A letter, that is a message (RULES 1.7) with its sender and its destinations, in a block of eight words: kind, task, register, function,
 -- value, sender, destinations, tag. Block b starts at word b * 8 of the memory it lies in. Kinds 1 to 4: the four messages.
 use Prim.Native.Nat.{ℕ, zero, suc, _+_, _*_, _/_}
-use mathlib.Core.Bool.{Bool, true, false, cond, _&&_}
+use mathlib.Core.Bool.{Bool, true, false, cond}
 use mathlib.Core.List.{List}
-use lib.Dec.{eqb, leb, ltb}
+use lib.Dec.{eqb, ltb}
 use lib.ListN.{getD, set, length}
 use Rattle.names.specs.declared.Body.{Body}
 use Rattle.names.specs.declared.Body.the-variants.{ReadDo, UpdateDo, ReadReply, UpdateReply}
 use Rattle.names.specs.declared.Letter.{Letter}
+use Rattle.names.specs.Update.{knownFunction}
 
 unfoldable pub bodyOf : ℕ → ℕ → ℕ → Body
 bodyOf k f v = cond (eqb k 1) ReadDo (cond (eqb k 2) (UpdateDo f v) (cond (eqb k 3) (ReadReply v) UpdateReply))
@@ -75,9 +76,9 @@ letterIn ws b = cond (reaches ws b) (letterAt ws b) (letterOf 0 0 0 0 0 0 0)
 unfoldable pub storedIn : List ℕ → ℕ → Letter → ℕ → List ℕ
 storedIn ws b l t = cond (reaches ws b) (stored ws b l t) ws
 
--- the function of an update is one of 1 to 4 (RULES 2.5)
+-- an update has one of the known functions
 unfoldable pub known : Body → Bool
 known ReadDo = true
-known (UpdateDo f v) = leb 1 f && leb f 4
+known (UpdateDo f v) = knownFunction f
 known (ReadReply v) = true
 known UpdateReply = true

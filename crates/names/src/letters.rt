@@ -8,6 +8,7 @@ use crate::Letter;
 use crate::Message;
 use crate::Register;
 use crate::Task;
+use crate::known_function;
 
 // The body that a block's kind, function and value give.
 pub fn body_of(kind: u32, function: u32, value: u32) -> Body
@@ -67,12 +68,7 @@ pub fn known(body: Body) -> bool
 {
     match body {
         Body::ReadDo => true,
-        Body::UpdateDo(f, _) => {
-            if f < 1 {
-                return false;
-            }
-            f <= 4
-        }
+        Body::UpdateDo(f, _) => known_function(f),
         Body::ReadReply(_) => true,
         Body::UpdateReply => true,
     }

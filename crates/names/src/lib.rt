@@ -3,7 +3,7 @@
 ghost use mathlib.Core.Path.{_≡_};
 ghost use Prim.Native.Nat.{_<_};
 ghost use Rattle.names.specs.CardSet.{memberOf, sizeOf, several, single, soleOf};
-ghost use Rattle.names.specs.Update.{sumOf, largerOf, updated};
+ghost use Rattle.names.specs.Update.{raised, largerOf, sumOf, updated, knownFunction};
 
 pub mod letters;
 pub mod placement;
@@ -113,11 +113,14 @@ pub fn sole(set: u32) -> Card
     )
 }
 
-// Function 2.
-fn sum(value: u32, operand: u32) -> u32
-    ensures { λ r. ⌜ r ≡ sumOf value operand ⌝ }
+// Function 2: an add that stays at the largest value once there. A tally counts so too.
+pub fn raise(value: u32, operand: u32) -> u32
+    ensures { λ r. ⌜ r ≡ raised value operand ⌝ }
 {
-    std::num::wrapping_add_u32(value, operand)
+    if 4294967295 - value < operand {
+        return 4294967295;
+    }
+    value + operand
 }
 
 // Function 3.
@@ -130,15 +133,30 @@ fn larger(value: u32, operand: u32) -> u32
     value
 }
 
+// Function 5: an add that comes round to zero.
+fn sum(value: u32, operand: u32) -> u32
+    ensures { λ r. ⌜ r ≡ sumOf value operand ⌝ }
+{
+    std::num::wrapping_add_u32(value, operand)
+}
+
+// Whether a function is one that an update may have.
+pub fn known_function(function: u32) -> bool
+    ensures { λ r. ⌜ r ≡ knownFunction function ⌝ }
+{
+    (1 <= function) & (function <= 5)
+}
+
 // What an update makes of a value. An unknown function leaves it.
 pub fn update(function: u32, operand: u32, value: u32) -> u32
     ensures { λ r. ⌜ r ≡ updated function operand value ⌝ }
 {
     match function {
         1 => operand,
-        2 => sum(value, operand),
+        2 => raise(value, operand),
         3 => larger(value, operand),
         4 => value | operand,
+        5 => sum(value, operand),
         _ => value,
     }
 }

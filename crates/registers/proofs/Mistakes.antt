@@ -13,8 +13,9 @@ use Rattle.lists.specs.Filters.{Precedes, filter, filter-in, in-filter, in-spli
 use Rattle.lists.specs.Histories.{Any, At, In, any-append, any-nil, any-right, here, now, there}
 use Rattle.lists.specs.Queues.{Once}
 use Rattle.lists.specs.Tests.{and-fst, clash, eqb-of, eqb-refl}
+use Rattle.lists.specs.Made.{make}
 use Rattle.registers.specs.Events.{Crucial}
-use Rattle.registers.specs.Explains.{Explains, ExplainsValues, make, reported, somewhere, updatesOf}
+use Rattle.registers.specs.Explains.{Explains, ExplainsValues, reported, somewhere, updatesOf}
 use Rattle.registers.specs.Key.{order}
 use Rattle.registers.specs.Layer.{Event, Values, World, ask, deliver, dispatch, fun, perform, reply, report, request, run, send, unvalued}
 

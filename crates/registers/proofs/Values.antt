@@ -16,10 +16,11 @@ use Rattle.registers.proofs.Ordered.{Ordered, ordered, ordered-suf}
 use Rattle.registers.proofs.Serial.{explained, finds}
 use Rattle.registers.proofs.Statuses.{EndedWith, changes, stays}
 use Rattle.registers.specs.Events.{Crucial, Gives}
-use Rattle.registers.specs.Explains.{ExplainsValues, make, updatesOf}
+use Rattle.registers.specs.Explains.{ExplainsValues, updatesOf}
 use Rattle.registers.specs.Key.{bound, incl, keyAt, order}
 use Rattle.registers.specs.Layer.{Values, Event, Msg, Precondition, Valid, World, ask, asking, base, deliver, dispatch, done, fun, idle, perform, quiet, reply, report, request, run, send, site, view, waiting}
 use Rattle.lists.specs.Sorting.{sort}
+use Rattle.lists.specs.Made.{make}
 
 module _ {Val : Type 0} (fun : ℕ → Val → Val) where
   make-push : (b : Bool) (v : Val) (k : ℕ) (l : List ℕ) → make fun v (push b k l) ≡ cond b (fun k (make fun v l)) (make fun v l)

@@ -11,13 +11,16 @@ fn limits(page: &mut [u8; 65536], at: usize) -> usize {
     let c = run(page, b, b"behind", b"behind.run", b"behind.answer");
     let d = run(page, c, b"outbox", b"outbox.run", b"outbox.answer");
     let e = run(page, d, b"inbox ", b"inbox.run", b"inbox.answer");
-    run(page, e, b"held  ", b"held.run", b"held.answer")
+    let f = run(page, e, b"held  ", b"held.run", b"held.answer");
+    run(page, f, b"counts", b"counts.run", b"counts.answer")
 }
 
 fn long(page: &mut [u8; 65536], at: usize) -> usize {
     let a = run(page, at, b"full1 ", b"full1.run", b"full1.answer");
     let b = run(page, a, b"full2 ", b"full2.run", b"full2.answer");
-    run(page, b, b"guided", b"guided.run", b"guided.answer")
+    let c = run(page, b, b"guided", b"guided.run", b"guided.answer");
+    let d = run(page, c, b"full3 ", b"full3.run", b"full3.answer");
+    run(page, d, b"mixed ", b"mixed.run", b"mixed.answer")
 }
 
 fn main() {

@@ -1,15 +1,18 @@
 -- A state is ill sized exactly if one of the listed kinds holds: the channel's kinds by its own law, the registers' test by test.
 use Prim.Native.Nat.{ℕ, _+_, _-_, _<_, _≤_, _^_, min}
 use mathlib.Core.Path.{_≡_, refl, subst}
+use mathlib.Core.Logic.{_⊎_, inl, inr}
 use mathlib.Core.Bool.{Bool, true, false, _&&_}
 use mathlib.Core.List.{List}
 use native.Mathlib.Omega.{arith}
-use borrow.Author.Tests.{ltb-true, leb-true, ltb-false, leb-false}
+use borrow.Author.Tests.{ltb-true, ltb-false, leb-false}
 use lib.Dec.{ltb, leb}
 use lib.ListN.{getD}
 use Rattle.lists.specs.Tests.{clash, false-of, and-fst, and-snd}
-use Rattle.lists.specs.Conjunctions.{and-three, and-fails}
+use Rattle.lists.specs.Conjunctions.{and-fails}
 use Rattle.lists.specs.Every.{each, each-failing}
+use Rattle.names.specs.Update.{knownFunction}
+use Rattle.names.proofs.KnownFunctions.{functions-unknown}
 use Rattle.channel.specs.Layout.{cardsOf, tasksOf, registersOf}
 use Rattle.channel.specs.Sized.{wellSized}
 use Rattle.channel.specs.IllSized.{IllChannel}
@@ -53,11 +56,11 @@ module _ (rs cs : List ℕ) where
   doing-fails t c Quiet q e = absurd (clash refl e)
   doing-fails t c (AskingRead x) q e = read t x c q (ltb-false _ _ e)
   doing-fails t c (AskingUpdate x f w) q e =
-      and-fails (ltb (x .0) (registersOf cs) && leb 1 f) (leb f 4) e
-      (λ e. and-fails (ltb (x .0) (registersOf cs)) (leb 1 f) e
-      (λ p. update t x f w c q (ltb-false _ _ p))
-      (λ p. let m = leb-false 1 f p in let z : f ≡ 0 = omega arith in no-function t x w c (rw z at q)))
-      (λ p. function t x f w c q (leb-false _ _ p))
+      and-fails (ltb (x .0) (registersOf cs)) (knownFunction f) e (λ p. update t x f w c q (ltb-false _ _ p)) (λ p. unknown (functions-unknown f .0 p))
+    where
+      unknown : (f ≡ 0) ⊎ (5 < f) → IllSized rs cs
+      unknown (inl z) = no-function t x w c (rw z at q)
+      unknown (inr h) = function t x f w c q h
   doing-fails t c Waiting q e = absurd (clash refl e)
   doing-fails t c (DoneRead v) q e = absurd (clash refl e)
   doing-fails t c DoneUpdate q e = absurd (clash refl e)
@@ -134,11 +137,11 @@ module _ (rs cs : List ℕ) where
     none (primary x c h) = omega (arith, fit .primary x c)
     none (read t x c q h) = let l = ltb-true (x .0) (registersOf cs) (asks (AskingRead x) t c q) in omega arith
     none (update t x f w c q h) =
-        let l = ltb-true (x .0) (registersOf cs) (and-three (ltb (x .0) (registersOf cs)) (leb 1 f) (leb f 4) (asks (AskingUpdate x f w) t c q) .0) in omega arith
+        let l = ltb-true (x .0) (registersOf cs) (and-fst (ltb (x .0) (registersOf cs)) (knownFunction f) (asks (AskingUpdate x f w) t c q)) in omega arith
     none (no-function t x w c q) =
-        let l = leb-true 1 0 (and-three (ltb (x .0) (registersOf cs)) (leb 1 0) (leb 0 4) (asks (AskingUpdate x 0 w) t c q) .1) in omega arith
+        clash (and-snd (ltb (x .0) (registersOf cs)) (knownFunction 0) (asks (AskingUpdate x 0 w) t c q)) (functions-unknown 0 .1 (inl refl))
     none (function t x f w c q h) =
-        let l = leb-true f 4 (and-three (ltb (x .0) (registersOf cs)) (leb 1 f) (leb f 4) (asks (AskingUpdate x f w) t c q) .2) in omega arith
+        clash (and-snd (ltb (x .0) (registersOf cs)) (knownFunction f) (asks (AskingUpdate x f w) t c q)) (functions-unknown f .1 (inr h))
     none (out-message i k c g p) = clash (fit .out i k c g) (block-exact cs rs (outPlace rs i k) .1 p)
     none (inbox-message i k c g p) = not-channel (Channel.inbox-message i k c g p)
     none (held-message i k c g p) = not-channel (Channel.held-message i k c g p)

@@ -2,15 +2,15 @@
 use Prim.Native.Nat.{ℕ, _<_}
 use mathlib.Core.Path.{_≡_, refl, _∙_}
 use mathlib.Core.Logic.{_≢_}
-use mathlib.Core.Bool.{Bool, true, false, cond, _&&_}
+use mathlib.Core.Bool.{Bool, true, false, cond}
 use mathlib.Core.List.{List}
 use native.Mathlib.Omega.{arith}
 use borrow.Author.Tests.{ltb-true}
-use lib.Dec.{ltb, leb}
+use lib.Dec.{ltb}
 use lib.ListN.{set, length-set}
 use Rattle.lists.specs.Tests.{and-fst}
 use Rattle.names.specs.declared.Register.{Register}
-use Rattle.names.specs.Update.{updated}
+use Rattle.names.specs.Update.{updated, knownFunction}
 use Rattle.names.specs.Placement.{Placement, home}
 use Rattle.automaton.specs.Refusals.{otherwise}
 use Rattle.channel.specs.Layout.{cardsOf, tasksOf, registersOf}
@@ -42,7 +42,7 @@ module _ (rs cs : List ℕ) (P : Placement) (s : Published) (z : Ready rs cs P s
 
   pub updates-there : (x : Register) (f w : ℕ) → doingFits cs (AskingUpdate x f w) ≡ true → x .0 < registersOf cs
   unfolding doingFits
-  updates-there x f w e = ltb-true _ _ (and-fst (ltb (x .0) (registersOf cs)) (leb 1 f) (and-fst (ltb (x .0) (registersOf cs) && leb 1 f) (leb f 4) e))
+  updates-there x f w e = ltb-true _ _ (and-fst (ltb (x .0) (registersOf cs)) (knownFunction f) e)
 
   -- the only holder
   pub alone-is : (x i : ℕ) → x < registersOf cs → i < cardsOf cs → R.alone P x i ≡ alone rs x i

@@ -7,12 +7,13 @@ use mathlib.Core.List.{List}
 use native.Mathlib.Omega.{arith}
 use borrow.Author.Tests.{leb-true, ne-eqb}
 use lib.Dec.{ltb, leb}
-use Rattle.lists.specs.Tests.{and-fst, and-snd, and-intro}
+use Rattle.lists.specs.Tests.{and-snd}
 use Rattle.names.specs.declared.Body.{Body}
 use Rattle.names.specs.declared.Body.the-variants.{ReadDo, UpdateDo}
 use Rattle.names.specs.declared.Register.{Register}
 use Rattle.names.specs.CardSet.{justOf}
 use Rattle.names.specs.Letters.{known}
+use Rattle.names.specs.Update.{knownFunction}
 use Rattle.names.specs.Placement.{Placement, home, holders, copy}
 use Rattle.channel.specs.Layout.{cardsOf, tasksOf, registersOf}
 use Rattle.channel.proofs.Offered.{cards-most}
@@ -146,10 +147,9 @@ module _ (rs cs : List ℕ) (P : Placement) (s : Published) (z : Ready rs cs P s
   update-taken x f w e n =
       let h = updates-there rs cs P s z x f w e in
       let r = update-room (x .0) n in
-      let one = and-snd (ltb (x .0) (registersOf cs)) (leb 1 f) (and-fst (ltb (x .0) (registersOf cs) && leb 1 f) (leb f 4) e) in
-      let four = and-snd (ltb (x .0) (registersOf cs) && leb 1 f) (leb f 4) e in
+      let k = and-snd (ltb (x .0) (registersOf cs)) (knownFunction f) e in
       rw (n, z .show .holders= (x .0) h)
-      (sent-ready (x .0) (UpdateDo f w) (holdersOf rs (x .0)) (r .0) h (and-intro one four) (leb-true _ _ (r .1)) (z .fit .holders (x .0) h))
+      (sent-ready (x .0) (UpdateDo f w) (holdersOf rs (x .0)) (r .0) h k (leb-true _ _ (r .1)) (z .fit .holders (x .0) h))
 
   update-number-of : (d : Doing) → doingFits cs d ≡ true → updateNumberOf rs t d ≡ sendUpdateRefusal P (home P t) (s .out (home P t)) (stage P (statusOf d))
   unfolding updateNumberOf statusOf

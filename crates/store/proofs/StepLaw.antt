@@ -30,7 +30,7 @@ module _ (rs cs : List ℕ) (P : Placement) (s : Published) (z : Ready rs cs P s
   unfolding obeyed taken doingFits
   obeyed-follows (Good (RequestRead t x)) r = request-read-follows rs cs P s z (t .0) (r .0) x (r .1)
   obeyed-follows (Good (RequestUpdate t x f w)) r =
-      request-update-follows rs cs P s z (t .0) (r .0) x f w (and-intro (and-intro (lt-ltb (x .0) (registersOf cs) (r .1)) (r .2)) (r .3))
+      request-update-follows rs cs P s z (t .0) (r .0) x f w (and-intro (lt-ltb (x .0) (registersOf cs) (r .1)) (r .2))
   obeyed-follows (Good (Perform t)) r = perform-follows rs cs P s z (t .0) r
   obeyed-follows (Good (SendRead t j)) r = send-read-follows rs cs P s z (t .0) (r .0) (j .0) (r .1)
   obeyed-follows (Good (SendUpdate t)) r = send-update-follows rs cs P s z (t .0) r

@@ -44,7 +44,7 @@ pub data IllSized (rs cs : List ℕ) : Type 0 where
   read : (t : ℕ) (x : Register) → t < tasksOf cs → doingAt rs t ≡ AskingRead x → registersOf cs ≤ x .0 → IllSized rs cs
   update : (t : ℕ) (x : Register) (f w : ℕ) → t < tasksOf cs → doingAt rs t ≡ AskingUpdate x f w → registersOf cs ≤ x .0 → IllSized rs cs
   no-function : (t : ℕ) (x : Register) (w : ℕ) → t < tasksOf cs → doingAt rs t ≡ AskingUpdate x 0 w → IllSized rs cs
-  function : (t : ℕ) (x : Register) (f w : ℕ) → t < tasksOf cs → doingAt rs t ≡ AskingUpdate x f w → 4 < f → IllSized rs cs
+  function : (t : ℕ) (x : Register) (f w : ℕ) → t < tasksOf cs → doingAt rs t ≡ AskingUpdate x f w → 5 < f → IllSized rs cs
   -- f, g, i: of a message in an outbox, in an inbox, held, in flight, or among the last 64 broadcasts, one rule for all: its fields, its tag, and
   -- that it has a kind and a destination
   out-message : (i k : ℕ) → i < cardsOf cs → k < outCountOf rs i → PastBlock cs rs (outPlace rs i k) → IllSized rs cs

@@ -6,6 +6,7 @@ use mathlib.Core.List.{List}
 use lib.Dec.{ltb, leb}
 use lib.ListN.{getD}
 use Rattle.lists.specs.Every.{each}
+use Rattle.names.specs.Update.{knownFunction}
 use Rattle.channel.specs.Layout.{cardsOf, tasksOf, registersOf}
 use Rattle.channel.specs.Sized.{blockFits, wellSized}
 use Rattle.tables.specs.declared.Doing.{Doing}
@@ -18,7 +19,7 @@ use Rattle.tables.specs.Outbox.{outHeadOf, outCountOf, outPlace}
 unfoldable pub doingFits : List ℕ → Doing → Bool
 doingFits cs Quiet = true
 doingFits cs (AskingRead x) = ltb (x .0) (registersOf cs)
-doingFits cs (AskingUpdate x f w) = ltb (x .0) (registersOf cs) && leb 1 f && leb f 4
+doingFits cs (AskingUpdate x f w) = ltb (x .0) (registersOf cs) && knownFunction f
 doingFits cs Waiting = true
 doingFits cs (DoneRead v) = true
 doingFits cs DoneUpdate = true

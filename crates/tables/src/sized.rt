@@ -31,7 +31,7 @@ fn doing_fits(channel: &[u32; 4808], doing: Doing) -> bool
         Doing::Quiet => true,
         Doing::AskingRead(x) => x.0 < channel::registers(channel),
         Doing::AskingUpdate(x, f, _) => {
-            (x.0 < channel::registers(channel)) & (1 <= f) & (f <= 4)
+            (x.0 < channel::registers(channel)) & names::known_function(f)
         }
         Doing::Waiting => true,
         Doing::DoneRead(_) => true,

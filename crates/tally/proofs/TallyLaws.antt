@@ -1,71 +1,17 @@
 -- What counting means: a count goes up by what is counted until it is at its largest value and then stays there, and counting the steps
 -- of a run at once is counting them one by one.
-use Prim.Native.Nat.{ℕ, zero, suc, _+_, _≤_, _<_}
+use Prim.Native.Nat.{ℕ, _+_, _≤_, _<_}
 use mathlib.Core.Path.{_≡_, refl, sym, ap, ap₂, _∙_}
-use mathlib.Core.Logic.{_⊎_, inl, inr}
 use mathlib.Core.Bool.{Bool, true, false, cond, not}
 use mathlib.Core.List.{List, [], _∷_}
-use native.Mathlib.Decide.{decLt}
 use native.Mathlib.Omega.{arith}
-use lib.Dec.{eqb, ltb}
 use lib.ListN.{length}
-use borrow.Author.Tests.{lt-ltb, le-ltb, eq-eqb, ne-eqb}
-use Rattle.lists.specs.Loops.{turns, turns-zero, turns-suc}
+use borrow.Author.Tests.{ne-eqb}
 use Rattle.lists.specs.Filters.{keep, filter}
+use Rattle.names.specs.Update.{raised}
+use Rattle.names.proofs.Raised.{raised-below, raised-past, raised-most, raised-again}
 use Rattle.tally.specs.declared.Tally.{Tally}
-use Rattle.tally.specs.Tally.{raised, tallyOf, counted, isTaken, countedStep, countedSteps, takenIn, refusedIn}
-
--- ---- one count
-
-pub raised-below : (a n : ℕ) → a + n ≤ 4294967295 → raised a n ≡ a + n
-unfolding raised
-raised-below a n h = rw (le-ltb 4294967295 (a + n) h)
-
-pub raised-past : (a n : ℕ) → 4294967295 ≤ a + n → raised a n ≡ 4294967295
-unfolding raised
-raised-past a n h = go (decLt 4294967295 (a + n))
-  where
-    go : Dec (4294967295 < a + n) → raised a n ≡ 4294967295
-    go (yes l) = rw (lt-ltb 4294967295 (a + n) l)
-    go (no g) = rw (le-ltb 4294967295 (a + n) (omega arith)) (omega arith)
-
--- a count at its largest value stays there (RULES 9.2)
-pub raised-stays : (n : ℕ) → raised 4294967295 n ≡ 4294967295
-raised-stays n = raised-past 4294967295 n (omega arith)
-
--- a count in range is the number or the largest value
-pub raised-cases : (a n : ℕ) → ((a + n ≤ 4294967295) × (raised a n ≡ a + n)) ⊎ ((4294967295 < a + n) × (raised a n ≡ 4294967295))
-raised-cases a n = go (decLt 4294967295 (a + n))
-  where
-    go : Dec (4294967295 < a + n) → ((a + n ≤ 4294967295) × (raised a n ≡ a + n)) ⊎ ((4294967295 < a + n) × (raised a n ≡ 4294967295))
-    go (yes l) = inr (l, raised-past a n (omega arith))
-    go (no g) = inl (omega arith, raised-below a n (omega arith))
-
-pub raised-most : (a n : ℕ) → raised a n ≤ 4294967295
-raised-most a n = go (raised-cases a n)
-  where
-    go : ((a + n ≤ 4294967295) × (raised a n ≡ a + n)) ⊎ ((4294967295 < a + n) × (raised a n ≡ 4294967295)) → raised a n ≤ 4294967295
-    go (inl p) = let e = p .1 in let h = p .0 in omega arith
-    go (inr p) = let e = p .1 in omega arith
-
--- by n, then by m: by n + m
-pub raised-again : (a n m : ℕ) → raised (raised a n) m ≡ raised a (n + m)
-raised-again a n m = go (raised-cases a n) (raised-cases a (n + m))
-  where
-    go : ((a + n ≤ 4294967295) × (raised a n ≡ a + n)) ⊎ ((4294967295 < a + n) × (raised a n ≡ 4294967295))
-        → ((a + (n + m) ≤ 4294967295) × (raised a (n + m) ≡ a + (n + m))) ⊎ ((4294967295 < a + (n + m)) × (raised a (n + m) ≡ 4294967295))
-        → raised (raised a n) m ≡ raised a (n + m)
-    go (inl p) (inl q) = let h = q .0 in rw (p .1, q .1, raised-below (a + n) m (omega arith)) (omega arith)
-    go (inl p) (inr q) = let h = q .0 in rw (p .1, q .1) (raised-past (a + n) m (omega arith))
-    go (inr p) (inl q) = let h = p .0 in let k = q .0 in absurd (omega arith)
-    go (inr p) (inr q) = rw (p .1, q .1) (raised-stays m)
-
--- one by one, n times: by n
-pub one-by-one : (a n : ℕ) → a ≤ 4294967295 → turns (λ _ b. raised b 1) n a ≡ raised a n
-one-by-one a zero h = turns-zero (λ _ b. raised b 1) a ∙ (omega (arith, raised-below a 0 (omega arith)))
-one-by-one a (suc n) h = rw (turns-suc (λ (_ : ℕ) b. raised b 1) n a, one-by-one a n h, raised-again a n 1) (ap (raised a) (omega arith))
-
--- ---- both counts
+use Rattle.tally.specs.Tally.{tallyOf, counted, isTaken, countedStep, countedSteps, takenIn, refusedIn}
 
 -- each count is a 32-bit number
 abbrev pub Fits : Tally → Type 0
@@ -80,6 +26,11 @@ step-taken t h g = ap₂ tallyOf (raised-below (t .taken) 1 (omega arith)) (omeg
 pub step-refused : (t : Tally) (number : ℕ) → ¬ (number ≡ 0) → t .taken ≤ 4294967295 → t .refused < 4294967295 → countedStep t number ≡ tallyOf (t .taken) (t .refused + 1)
 unfolding countedStep isTaken counted
 step-refused t number n h g = rw (ne-eqb number 0 n) (ap₂ tallyOf (omega (arith, raised-below (t .taken) 0 (omega arith))) (raised-below (t .refused) 1 (omega arith)))
+
+-- past the largest value a count is the largest value, and stays there (RULES 9.2)
+pub counted-past : (t : Tally) (n m : ℕ) → (4294967295 ≤ t .taken + n → counted t n m .taken ≡ 4294967295) × (4294967295 ≤ t .refused + m → counted t n m .refused ≡ 4294967295)
+unfolding counted
+counted-past t n m = (raised-past (t .taken) n, raised-past (t .refused) m)
 
 pub counted-fits : (t : Tally) (n m : ℕ) → Fits (counted t n m)
 unfolding counted

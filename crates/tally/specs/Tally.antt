@@ -1,20 +1,17 @@
 -- A tally of steps taken and steps refused, lent by its owner and brought up to date in place (RULES 9.1 to 9.3).
-use Prim.Native.Nat.{ℕ, _+_}
+use Prim.Native.Nat.{ℕ}
 use mathlib.Core.Bool.{Bool, cond, not}
 use mathlib.Core.List.{List, [], _∷_}
-use lib.Dec.{eqb, ltb}
+use lib.Dec.{eqb}
 use lib.ListN.{length}
 use Rattle.lists.specs.Filters.{filter}
+use Rattle.names.specs.Update.{raised}
 use Rattle.tally.specs.declared.Tally.{Tally}
-
--- a count raised by n; it stays at its largest value (RULES 9.2)
-unfoldable pub raised : ℕ → ℕ → ℕ
-raised a n = cond (ltb 4294967295 (a + n)) 4294967295 (a + n)
 
 abbrev pub tallyOf : ℕ → ℕ → Tally
 tallyOf a b = record { taken = a; refused = b }
 
--- so many more steps taken, so many more refused
+-- so many more steps taken, so many more refused; a count stays at its largest value (RULES 9.2)
 unfoldable pub counted : Tally → ℕ → ℕ → Tally
 counted t n m = record { taken = raised (t .taken) n; refused = raised (t .refused) m }
 

@@ -1,4 +1,4 @@
-// What a step asks, in 58 columns.
+// What a step asks, in 73 columns.
 use super::number;
 use console::column;
 use console::hex;
@@ -47,10 +47,16 @@ fn which(page: &mut [u8; 65536], at: usize, code: u32, argument: &[u8]) -> usize
 // Bytes 2 and 4 to 7: the function of an update and its operand.
 fn change(page: &mut [u8; 65536], at: usize, code: u32, argument: &[u8]) -> usize {
     if code != 2 {
-        return pad(page, at, 0, 20);
+        return pad(page, at, 0, 35);
     }
     let a = say(page, at, b"  ");
-    let b = column(page, a, b";set;add;larger;or", byte(argument, 2), 7);
+    let b = column(
+        page,
+        a,
+        b";set;add, stays at the top;larger;or;add, comes round",
+        byte(argument, 2),
+        22,
+    );
     left(page, b, number(argument, 4), 11)
 }
 
@@ -65,10 +71,7 @@ fn readable(code: u32, argument: &[u8], result: u32) -> bool {
     if code != 2 {
         return true;
     }
-    if byte(argument, 2) == 0 {
-        return false;
-    }
-    byte(argument, 2) < 5
+    names::known_function(byte(argument, 2))
 }
 
 fn one_raw(page: &mut [u8; 65536], at: usize, byte: u32) -> usize {
@@ -85,7 +88,7 @@ fn raw(page: &mut [u8; 65536], at: usize, code: u32, argument: &[u8]) -> usize {
         next = one_raw(page, next, byte(argument, i));
         i += 1;
     }
-    pad(page, next, 32, 58)
+    pad(page, next, 32, 73)
 }
 
 fn read(page: &mut [u8; 65536], at: usize, code: u32, argument: &[u8]) -> usize {

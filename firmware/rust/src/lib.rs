@@ -21,7 +21,7 @@
 //! })?;
 //!
 //! // Task 0 adds 5 to the register. Its message becomes broadcast 1, and card 0 delivers it.
-//! store.step(Step::RequestUpdate { task: 0, register: 0, function: Function::Add, operand: 5 })?;
+//! store.step(Step::RequestUpdate { task: 0, register: 0, function: Function::AddStaysAtTheTop, operand: 5 })?;
 //! store.step(Step::SendUpdate { task: 0 })?;
 //! store.step(Step::Dispatch { card: 0 })?;
 //! store.step(Step::TakeBroadcast { card: 0 })?;

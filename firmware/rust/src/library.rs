@@ -21,7 +21,7 @@ const fn number(digits: &str) -> u32 {
     number
 }
 
-/// The version of the library that is linked, in the form of [`VERSION`]: 2000 is 0.2.0.
+/// The version of the library that is linked, in the form of [`VERSION`]: 3000 is 0.3.0.
 ///
 /// ```
 /// assert_eq!(gondzselu::version(), gondzselu::VERSION);

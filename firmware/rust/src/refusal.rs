@@ -39,7 +39,7 @@ pub enum Refusal {
     AbsentRegister,
     /// 14: the card is absent.
     AbsentCard,
-    /// 15: the function is not 1 to 4.
+    /// 15: the function is not 1 to 5.
     UnknownFunction,
     /// 20: a request, and the task is not quiet.
     NotQuiet,

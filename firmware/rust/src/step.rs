@@ -5,16 +5,27 @@ use core::fmt;
 use crate::Refusal;
 
 /// What an update does to the value of a copy (RULES chapter 2).
+///
+/// ```
+/// use gondzselu::Function;
+///
+/// assert_eq!(Function::from_number(5), Some(Function::AddComesRound));
+/// assert_eq!(Function::AddStaysAtTheTop.to_string(), "add, stays at the top");
+/// ```
 #[derive(Clone, Copy, Debug, PartialEq, Eq, Hash)]
 pub enum Function {
     /// 1: the operand.
     Set,
-    /// 2: the sum of value and operand, modulo 4,294,967,296.
-    Add,
+    /// 2: the sum of value and operand, or 4,294,967,295 where that is smaller: a counter at its
+    /// top stays there.
+    AddStaysAtTheTop,
     /// 3: the larger of value and operand.
     Larger,
     /// 4: the bitwise or of value and operand.
     Or,
+    /// 5: the sum of value and operand, modulo 4,294,967,296: a counter at its top comes round to
+    /// zero.
+    AddComesRound,
 }
 
 impl Function {
@@ -22,32 +33,35 @@ impl Function {
     pub const fn number(self) -> u8 {
         match self {
             Function::Set => 1,
-            Function::Add => 2,
+            Function::AddStaysAtTheTop => 2,
             Function::Larger => 3,
             Function::Or => 4,
+            Function::AddComesRound => 5,
         }
     }
 
-    /// The function with this number, if it is 1 to 4.
+    /// The function with this number, if it is 1 to 5.
     pub const fn from_number(number: u8) -> Option<Function> {
         match number {
             1 => Some(Function::Set),
-            2 => Some(Function::Add),
+            2 => Some(Function::AddStaysAtTheTop),
             3 => Some(Function::Larger),
             4 => Some(Function::Or),
+            5 => Some(Function::AddComesRound),
             _ => None,
         }
     }
 }
 
-/// A word: set, add, larger, or.
+/// Its name: set; add, stays at the top; larger; or; add, comes round.
 impl fmt::Display for Function {
     fn fmt(&self, f: &mut fmt::Formatter<'_>) -> fmt::Result {
         f.pad(match self {
             Function::Set => "set",
-            Function::Add => "add",
+            Function::AddStaysAtTheTop => "add, stays at the top",
             Function::Larger => "larger",
             Function::Or => "or",
+            Function::AddComesRound => "add, comes round",
         })
     }
 }

@@ -4,7 +4,13 @@ use std::collections::BTreeSet;
 
 use gondzselu::{Function, Placement, Refusal, Step, Store, MAX_CARDS, MAX_REGISTERS, MAX_TASKS};
 
-const FUNCTIONS: [Function; 4] = [Function::Set, Function::Add, Function::Larger, Function::Or];
+const FUNCTIONS: [Function; 5] = [
+    Function::Set,
+    Function::AddStaysAtTheTop,
+    Function::Larger,
+    Function::Or,
+    Function::AddComesRound,
+];
 
 /// Every step with these numbers.
 fn all(task: u8, register: u8, card: u8, function: Function, operand: u32) -> [Step; 10] {
@@ -41,10 +47,10 @@ fn codes_and_bytes_are_those_of_the_rules() {
     for k in [5, 6, 8] {
         assert_eq!(arguments[k], [6, 0, 0, 0, 0, 0, 0, 0]);
     }
-    assert_eq!(FUNCTIONS.map(Function::number), [1, 2, 3, 4]);
+    assert_eq!(FUNCTIONS.map(Function::number), [1, 2, 3, 4, 5]);
     for number in 0..=255 {
         let function = Function::from_number(number);
-        assert_eq!(function.is_some(), (1..=4).contains(&number));
+        assert_eq!(function.is_some(), (1..=5).contains(&number));
         assert!(function.map_or(true, |function| function.number() == number));
     }
 }
@@ -64,15 +70,15 @@ fn bytes_come_back() {
 #[test]
 fn no_two_steps_have_the_same_words() {
     let mut words = BTreeSet::new();
-    for (number, function) in (0..4).zip(FUNCTIONS) {
+    for (number, function) in (0..5).zip(FUNCTIONS) {
         let steps = all(number, number + 10, number + 20, function, number.into());
         words.extend(steps.map(|step| step.to_string()));
     }
-    assert_eq!(words.len(), 40);
-    let longest = all(255, 255, 255, Function::Larger, u32::MAX)[1].to_string();
+    assert_eq!(words.len(), 50);
+    let longest = all(255, 255, 255, Function::AddStaysAtTheTop, u32::MAX)[1].to_string();
     assert_eq!(
         longest,
-        "request update, task 255, register 255, larger 4294967295"
+        "request update, task 255, register 255, add, stays at the top 4294967295"
     );
 }
 

@@ -1,9 +1,9 @@
 //! Stores against the rules: K9, the limits, what is copied and what is shared.
 
 use gondzselu::{
-    answer, answer_counted, Condition, Placement, Refusal, Step, Store, Tally, CHANNEL_WORDS,
-    LONGEST_ANSWER, LONGEST_FILE, MAX_CARDS, MAX_REGISTERS, MAX_REQUESTS, MAX_STEPS, MAX_TASKS,
-    REGISTERS_WORDS,
+    answer, answer_counted, Condition, Function, Placement, Refusal, Step, Store, Tally,
+    CHANNEL_WORDS, LONGEST_ANSWER, LONGEST_FILE, MAX_CARDS, MAX_REGISTERS, MAX_REQUESTS, MAX_STEPS,
+    MAX_TASKS, REGISTERS_WORDS,
 };
 
 /// One card, one task, one register.
@@ -160,6 +160,33 @@ fn requests_end_where_the_limit_says() {
     assert_eq!(store.step(request), Err(Refusal::NoRequestLeft));
     store.restart(SMALLEST).expect("a placement");
     assert_eq!((store.requests(), store.step(request)), (0, Ok(0)));
+}
+
+/// RULES 2.2 and 2.5: one below the top and 3 more, by either sum.
+#[test]
+fn a_counter_at_the_top() {
+    let sums = [
+        (Function::AddStaysAtTheTop, 4_294_967_295),
+        (Function::AddComesRound, 1),
+    ];
+    for (function, expected) in sums {
+        let mut store = Store::start(SMALLEST).expect("a placement");
+        let mut operation = |request| {
+            let steps = [request, Step::Perform { task: 0 }, Step::Report { task: 0 }];
+            steps.map(|step| store.step(step).expect("a step taken"))[2]
+        };
+        let (task, register) = (0, 0);
+        for (function, operand) in [(Function::Set, 4_294_967_294), (function, 3)] {
+            operation(Step::RequestUpdate {
+                task,
+                register,
+                function,
+                operand,
+            });
+        }
+        let read = operation(Step::RequestRead { task, register });
+        assert_eq!(read, expected, "{function}");
+    }
 }
 
 #[test]

@@ -7,6 +7,7 @@ mod spoil;
 
 use crate::model::files::{RawStep, Run};
 use crate::model::placement::{Place, Placement};
+use crate::model::FUNCTIONS;
 use crate::random::Random;
 
 #[derive(Clone, Copy, Debug, PartialEq, Eq)]
@@ -168,9 +169,9 @@ pub(crate) fn near(random: &mut Random, placement: &Placement) -> RawStep {
         2 => {
             argument[1] = below(random, placement.registers.len());
             argument[2] = if random.percent(4) {
-                random.pick(&[0, 5, 255])
+                random.pick(&[0, 6, 255])
             } else {
-                random.byte(1, 4)
+                known_function(random)
             };
             argument[4..].copy_from_slice(&operand(random).to_le_bytes());
         }
@@ -181,6 +182,17 @@ pub(crate) fn near(random: &mut Random, placement: &Placement) -> RawStep {
         argument[random.between(0, 7)] = random.byte(1, 255);
     }
     (code, argument)
+}
+
+pub(crate) fn known_function(random: &mut Random) -> u8 {
+    random.byte(*FUNCTIONS.start(), *FUNCTIONS.end())
+}
+
+/// An operand whose sum with a value is the largest word, or up to two off it.
+fn about_the_top(random: &mut Random, value: u32) -> u32 {
+    (u32::MAX - value)
+        .saturating_sub(2)
+        .saturating_add(random.between(0, 4) as u32)
 }
 
 /// Small numbers, single bits, and numbers that an addition brings past the largest.

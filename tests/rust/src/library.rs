@@ -20,8 +20,8 @@ use crate::random::Random;
 use calls::Calls;
 use memory::shown;
 
-/// Version 0.2.0.
-const VERSION: u32 = 2_000;
+/// Version 0.3.0.
+const VERSION: u32 = 3_000;
 
 /// What lies in a lent output before.
 const FILL: u8 = 0xA5;

@@ -34,8 +34,9 @@ compare states SEED COUNT        compares it on states made by hand, and on K1 t
 compare sentences-library        compares its sentences
 
 From COUNT 1,000 on, each also fails where the files miss something that they must reach: a
-refusal, a code or function taken, a kind of message delivered, a value, a size at its least or
-most, a limit; and from 10,000 on, where the states are all of one sort or miss a result.";
+refusal, a code or function taken, a sum about the top, a kind of message delivered, a value, a
+size at its least or most, a limit; and from 10,000 on, where the states are all of one sort or miss
+a result.";
 
 fn main() -> ExitCode {
     let words: Vec<String> = std::env::args().skip(1).collect();

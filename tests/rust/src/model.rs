@@ -6,6 +6,7 @@
 
 pub mod channel;
 pub mod files;
+mod functions;
 mod judge;
 pub mod placement;
 pub mod sized;
@@ -13,6 +14,7 @@ pub mod step;
 pub mod tally;
 
 use channel::{Body, Channel, Message};
+pub use functions::{apply, FUNCTIONS};
 use placement::Placement;
 use step::Step;
 
@@ -66,17 +68,6 @@ pub struct State {
     /// Requests taken, of all tasks together.
     pub requests: u32,
     pub channel: Channel,
-}
-
-/// RULES 2.1 to 2.4: the value v of a copy after an update with operand w.
-pub fn apply(function: u8, v: u32, w: u32) -> u32 {
-    match function {
-        1 => w,
-        2 => v.wrapping_add(w),
-        3 => v.max(w),
-        4 => v | w,
-        _ => unreachable!("function {function}"),
-    }
 }
 
 impl State {

@@ -5,7 +5,7 @@ mod cards;
 use crate::model::files::{write_answer, RawStep, Run};
 use crate::model::placement::Placement;
 use crate::model::Refusal;
-use crate::steps::{perform, report, request_read, send_update, set};
+use crate::steps::{perform, report, request_read, request_update, send_update, set};
 
 pub struct Named {
     pub name: &'static str,
@@ -28,6 +28,7 @@ pub fn runs() -> Vec<Named> {
         cards::k9(),
         cards::k10(),
         cards::two_held(),
+        counter(),
         cards::k11(),
         cards::k12(),
     ]
@@ -103,6 +104,29 @@ fn k8() -> Named {
     told("K8", alone(), &steps)
 }
 
+/// A counter near the top: function 2 stays there, function 5 comes round; 6 and 0 are no functions.
+fn counter() -> Named {
+    let update = |function, operand| {
+        let request = request_update(0, 0, function, operand);
+        [taken(request), taken(perform(0)), taken(report(0))]
+    };
+    let read = |value| {
+        [
+            taken(request_read(0, 0)),
+            taken(perform(0)),
+            gives(report(0), value),
+        ]
+    };
+    let mut steps = Vec::new();
+    steps.extend(update(1, 4_294_967_294));
+    steps.extend(update(2, 3));
+    steps.extend(read(4_294_967_295));
+    steps.extend(update(5, 3));
+    steps.extend(read(2));
+    steps.extend([6, 0].map(|function| refused(request_update(0, 0, function, 3), 15)));
+    told("counter", alone(), &steps)
+}
+
 /// From `start` every round is taken, so many times; then the first step of a round is refused.
 pub struct Rounds {
     pub start: Placement,
@@ -135,10 +159,10 @@ mod tests {
         }
     }
 
-    /// The files of `examples` (RULES 3.5, 3.6) are K2 and K9.
+    /// The files of `examples` are K2 and K9 (RULES 3.5, 3.6), and a counter at the top (13.3).
     #[test]
     fn the_examples_are_these() {
-        let examples = ["K2", "K9"].map(|name| {
+        let examples = ["K2", "K9", "counter"].map(|name| {
             let mut runs = runs().into_iter();
             let run = runs.find(|run| run.name == name).expect("a named run");
             (format!("{}.run", name.to_lowercase()), run.file)

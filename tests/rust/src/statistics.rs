@@ -11,7 +11,7 @@ use crate::generate::Kind;
 use crate::model::channel::Body;
 use crate::model::files::Run;
 use crate::model::step::Step;
-use crate::model::{Request, State, Task};
+use crate::model::{Card, Request, State, Task};
 pub use largest::{Largest, LIMITS};
 pub use needed::{by_hand, faults, none_missing, FILES, STATES};
 
@@ -37,6 +37,8 @@ pub struct Statistics {
     /// Steps taken by code, and those that ask for an update by function.
     pub codes: Counts<u8>,
     pub functions: Counts<u8>,
+    /// Sums that an update made of a copy, by function and where they lie.
+    pub sums: Counts<(u8, Sum)>,
     pub delivered: Counts<Delivered>,
     pub found: Counts<Found>,
     pub largest: Largest,
@@ -60,6 +62,24 @@ pub enum Found {
     AtHome,
     /// By step 4, in a reply.
     InReply,
+}
+
+/// Where v + w lies: at the largest word, one past it, or further past it.
+#[derive(Clone, Copy, Debug, PartialEq, Eq, PartialOrd, Ord)]
+pub enum Sum {
+    AtTheTop,
+    OnePast,
+    FurtherPast,
+}
+
+impl Sum {
+    pub fn of(v: u32, w: u32) -> Option<Sum> {
+        match (v as u64 + w as u64).checked_sub(u32::MAX as u64)? {
+            0 => Some(Sum::AtTheTop),
+            1 => Some(Sum::OnePast),
+            _ => Some(Sum::FurtherPast),
+        }
+    }
 }
 
 /// What a task asked for last, and whether that was sent.
@@ -124,8 +144,16 @@ impl Statistics {
                 count(&mut self.functions, function);
             }
             Step::SendRead { task, .. } => asked[task].sent = true,
+            Step::Perform { task } => {
+                if let Task::Asking(request) = state.tasks[task] {
+                    self.see_update(state, state.home(task), request);
+                }
+            }
             Step::Deliver { card } => {
                 let message = state.channel.inbox[card].front().expect("a message");
+                if let Body::Request(request) = message.body {
+                    self.see_update(state, card, request);
+                }
                 let kind = match message.body {
                     Body::Request(Request::Read { .. }) => Delivered::Read,
                     Body::Request(Request::Update { .. }) => Delivered::Update,
@@ -143,6 +171,20 @@ impl Statistics {
                 count(&mut self.found, found);
             }
             _ => {}
+        }
+    }
+
+    /// Looks at an update that is about to be applied on a card.
+    fn see_update(&mut self, state: &State, card: Card, request: Request) {
+        if let Request::Update {
+            register,
+            function: function @ (2 | 5),
+            operand,
+        } = request
+        {
+            if let Some(sum) = Sum::of(state.copy(card, register), operand) {
+                count(&mut self.sums, (function, sum));
+            }
         }
     }
 }

@@ -1,5 +1,9 @@
-//! The runs stored in `crates/runs/data`: K11 and K12, a run for each queue at its limit, and files
-//! of 4,096 steps. The answers stored with them are this model's.
+//! The runs stored in `crates/runs/data`: K11 and K12, a run for each queue at its limit, counters at
+//! the top, and files of 4,096 steps. The answers stored with them are this model's. `earlier` holds
+//! them to the answers of the version before.
+
+#[cfg(test)]
+mod earlier;
 
 use crate::folder::File;
 use crate::generate::{self, Kind};
@@ -8,6 +12,13 @@ use crate::model::placement::Placement;
 use crate::named;
 use crate::random::Random;
 use crate::steps::*;
+
+/// A file that was generated when functions 1 to 4 were drawn, as it was.
+macro_rules! kept {
+    ($name:literal) => {
+        include_bytes!(concat!("../../../crates/runs/data/", $name, ".run")).to_vec()
+    };
+}
 
 pub struct Stored {
     pub name: &'static str,
@@ -25,9 +36,12 @@ pub fn runs() -> Vec<Stored> {
         of("outbox", outbox()),
         of("inbox", inbox()),
         of("held", held()),
-        of("full1", generated(Kind::Full, 0)),
-        of("full2", generated(Kind::Full, 1)),
-        of("guided", longest_guided()),
+        of("counts", counts()),
+        of("full1", kept!("full1")),
+        of("full2", kept!("full2")),
+        of("guided", kept!("guided")),
+        of("full3", generated(Kind::Full, 2)),
+        of("mixed", longest_guided()),
     ]
 }
 
@@ -70,10 +84,10 @@ fn sixteen_tasks(steps: Vec<RawStep>) -> Vec<u8> {
     Run { placement, steps }.write()
 }
 
-/// Task 0 sets register 0, and card 0 takes and delivers the broadcast.
-fn broadcast(value: u32) -> [RawStep; 6] {
+/// Task 0's update of a register on both cards; card 0 takes and delivers the broadcast.
+fn shared(request: RawStep) -> [RawStep; 6] {
     [
-        set(0, 0, value),
+        request,
         send_update(0),
         dispatch(0),
         take_broadcast(0),
@@ -82,10 +96,14 @@ fn broadcast(value: u32) -> [RawStep; 6] {
     ]
 }
 
-/// Task 0 sets register 1: a single message to card 1, and its reply.
-fn single(value: u32) -> Vec<RawStep> {
-    vec![
-        set(0, 1, value),
+fn broadcast(value: u32) -> [RawStep; 6] {
+    shared(set(0, 0, value))
+}
+
+/// Task 0's update of a register on card 1 alone: a single message, and its reply.
+fn elsewhere(request: RawStep) -> [RawStep; 9] {
+    [
+        request,
         send_update(0),
         dispatch(0),
         take_single(0),
@@ -95,6 +113,10 @@ fn single(value: u32) -> Vec<RawStep> {
         deliver(0),
         report(0),
     ]
+}
+
+fn single(value: u32) -> [RawStep; 9] {
+    elsewhere(set(0, 1, value))
 }
 
 /// Every task reads register 1, and its message is taken where it is sent.
@@ -147,7 +169,7 @@ fn outbox() -> Vec<u8> {
 /// An inbox of 48: card 1 takes 32 broadcasts and 16 reads before it delivers; then an outbox of
 /// 16 replies.
 fn inbox() -> Vec<u8> {
-    let mut steps = single(9);
+    let mut steps = single(9).to_vec();
     steps.extend((1..=32).flat_map(broadcast));
     steps.extend(all_and_one(7, 1, 32));
     steps.extend(reads());
@@ -158,7 +180,7 @@ fn inbox() -> Vec<u8> {
 
 /// 16 messages held: card 1 takes no broadcast before the reads; then one take lets them all join.
 fn held() -> Vec<u8> {
-    let mut steps = single(9);
+    let mut steps = single(9).to_vec();
     steps.extend(broadcast(7));
     steps.extend(reads());
     steps.extend([deliver(1), take_broadcast(1)]);
@@ -167,10 +189,41 @@ fn held() -> Vec<u8> {
     sixteen_tasks(steps)
 }
 
+/// What `counts` adds to 4,294,967,294, one after the other; each sum is read on every card with a copy.
+const ADDED: [u32; 4] = [1, 1, u32::MAX, 2];
+
+/// Functions 2 and 5 past the top: of a register on both cards, of one on card 1, of one on card 0. Then
+/// functions that there are not.
+fn counts() -> Vec<u8> {
+    let placement = Placement::new(2, &[0, 1], &[(0b11, 0), (0b10, 1), (0b01, 0)]);
+    let update = |request: RawStep| {
+        let (_, [_, register, ..]) = request;
+        match register {
+            0 => [&shared(request)[..], &[take_broadcast(1), deliver(1)]].concat(),
+            1 => elsewhere(request).to_vec(),
+            _ => vec![request, perform(0), report(0)],
+        }
+    };
+    let read = |task, register| [request_read(task, register), perform(task), report(task)];
+    let mut steps = Vec::new();
+    for (register, homes) in [(0, &[0, 1][..]), (1, &[1]), (2, &[0])] {
+        for function in [2, 5] {
+            steps.extend(update(set(0, register, u32::MAX - 1)));
+            for operand in ADDED {
+                steps.extend(update(request_update(0, register, function, operand)));
+                steps.extend(homes.iter().flat_map(|&task| read(task, register)));
+            }
+        }
+    }
+    steps.extend([0, 6].map(|function| request_update(0, 0, function, 1)));
+    Run { placement, steps }.write()
+}
+
 #[cfg(test)]
 mod tests {
     use super::*;
     use crate::folder;
+    use crate::model::State;
     use crate::statistics::{Largest, Statistics, LIMITS};
 
     fn statistics(file: &[u8]) -> Statistics {
@@ -179,10 +232,40 @@ mod tests {
         statistics
     }
 
-    fn largest(name: &str) -> Largest {
+    fn named(name: &str) -> Vec<u8> {
         let mut runs = runs().into_iter();
-        let run = runs.find(|run| run.name == name).expect("a stored run");
-        statistics(&run.file).largest
+        let run = runs.find(|run| run.name == name);
+        run.expect("a stored run").file
+    }
+
+    fn largest(name: &str) -> Largest {
+        statistics(&named(name)).largest
+    }
+
+    /// Worked out by hand from `ADDED`.
+    #[test]
+    fn counts_at_the_top() {
+        const TOP: u32 = u32::MAX;
+        let run = Run::read(&named("counts")).expect("an accepted file");
+        let mut state = State::start(run.placement).expect("an accepted placement");
+        let mut asked = [0; 2];
+        let mut given = Vec::new();
+        for (code, argument) in run.steps {
+            let (result, value) = state.step_reached(code, argument);
+            let known = code != 2 || !matches!(argument[2], 0 | 6);
+            assert_eq!(result, if known { 0 } else { 15 });
+            let task = argument[0] as usize;
+            match code {
+                1 | 2 => asked[task] = code,
+                10 if asked[task] == 1 => given.push(value),
+                _ => {}
+            }
+        }
+        let stays = [TOP; 4];
+        let comes_round = [TOP, 0, TOP, 1];
+        let once = [stays, comes_round].concat();
+        let twice: Vec<u32> = once.iter().flat_map(|&value| [value; 2]).collect();
+        assert_eq!(given, [twice, once.clone(), once].concat());
     }
 
     #[test]
@@ -196,9 +279,8 @@ mod tests {
 
     #[test]
     fn full_files_have_every_limit_and_refusal() {
-        for item in 0..2 {
-            let file = generated(Kind::Full, item);
-            let statistics = statistics(&file);
+        for name in ["full1", "full2", "full3"] {
+            let statistics = statistics(&named(name));
             assert!(statistics.lengths.contains_key(&4_096));
             assert_eq!(statistics.refusals_missing(), []);
             assert_eq!(statistics.largest, LIMITS);

@@ -7,7 +7,7 @@ pub mod cases;
 use crate::model::files::{RawStep, Run};
 use crate::model::placement::Placement;
 use crate::model::tally::Tally;
-use crate::model::{has, Refusal, State};
+use crate::model::{has, Refusal, State, FUNCTIONS};
 use crate::sentence::PHRASES;
 
 /// By code, from 1.
@@ -25,7 +25,13 @@ const NAMES: [&str; 10] = [
 ];
 
 /// By function, from 1.
-const FUNCTIONS: [&str; 4] = ["set", "add", "larger", "or"];
+const NAMED_FUNCTIONS: [&str; 5] = [
+    "set",
+    "add, stays at the top",
+    "larger",
+    "or",
+    "add, comes round",
+];
 
 /// What a file can be refused with. A step has the phrases of docs/PHRASES.md.
 pub const FILES: [(Refusal, &str); 4] = [
@@ -72,7 +78,7 @@ pub fn view(file: &[u8]) -> String {
         if result == 0 && matches!(code, 1 | 2) {
             reads[task] = code == 1;
         }
-        text += &format!("{number:>4}  {asked:<58}{answered}\n");
+        text += &format!("{number:>4}  {asked:<73}{answered}\n");
     }
     let Tally { taken, refused } = tally;
     text + &format!("\ntaken {taken}, refused {refused}\n")
@@ -103,8 +109,8 @@ fn placement(placement: &Placement, steps: usize) -> String {
 /// What a step with this result asks, or its bytes, if they cannot be read as a step.
 fn asked((code, argument): RawStep, result: u8) -> String {
     let [first, second, function, _, a, b, c, d] = argument;
-    let of_four = (1..=4).contains(&function);
-    if matches!(result, 10 | 11) || code == 2 && !of_four {
+    let known = FUNCTIONS.contains(&function);
+    if matches!(result, 10 | 11) || code == 2 && !known {
         let bytes = argument.iter().map(|byte| format!(" {byte:02x}"));
         return format!("bytes {code:02x}{}", bytes.collect::<String>());
     }
@@ -120,13 +126,13 @@ fn asked((code, argument): RawStep, result: u8) -> String {
     };
     let update = match code {
         2 => {
-            let function = FUNCTIONS[function as usize - 1];
+            let function = NAMED_FUNCTIONS[function as usize - 1];
             let operand = u32::from_le_bytes([a, b, c, d]);
-            format!("  {function:<7}{operand:<11}")
+            format!("  {function:<22}{operand:<11}")
         }
         _ => String::new(),
     };
-    format!("{name:<16}{of} {first:>3}{second:<14}{update:<20}")
+    format!("{name:<16}{of} {first:>3}{second:<14}{update:<35}")
 }
 
 #[cfg(test)]
@@ -163,22 +169,22 @@ task  2  home card 2
 register  0  primary card 0  copies on 0 1 2
 register  1  primary card 1  copies on 1
 
-   0  request update  task   2  register   0  set    7          taken
-   1  send update     task   2                                  taken
-   2  dispatch        card   2                                  taken
-   3  take broadcast  card   0                                  taken
-   4  deliver         card   0                                  taken
-   5  request read    task   0  register   0                    taken
-   6  perform         task   0                                  taken
-   7  report          task   0                                  taken, value 7
-   8  request update  task   0  register   1  set    9          taken
-   9  send update     task   0                                  taken
-  10  dispatch        card   0                                  taken
-  11  take single     task   0                                  taken
-  12  deliver         card   1                                  refused 33: the card has nothing to deliver
-  13  take broadcast  card   1                                  taken
-  14  deliver         card   1                                  taken
-  15  deliver         card   1                                  taken
+   0  request update  task   2  register   0  set                   7          taken
+   1  send update     task   2                                                 taken
+   2  dispatch        card   2                                                 taken
+   3  take broadcast  card   0                                                 taken
+   4  deliver         card   0                                                 taken
+   5  request read    task   0  register   0                                   taken
+   6  perform         task   0                                                 taken
+   7  report          task   0                                                 taken, value 7
+   8  request update  task   0  register   1  set                   9          taken
+   9  send update     task   0                                                 taken
+  10  dispatch        card   0                                                 taken
+  11  take single     task   0                                                 taken
+  12  deliver         card   1                                                 refused 33: the card has nothing to deliver
+  13  take broadcast  card   1                                                 taken
+  14  deliver         card   1                                                 taken
+  15  deliver         card   1                                                 taken
 
 taken 15, refused 1
 ";
@@ -197,27 +203,31 @@ taken 15, refused 1
 
     #[test]
     fn what_is_asked() {
-        let line = |code, argument, result| format!("{:<58}|", asked((code, argument), result));
-        let wide = [255, 100, 3, 0, 255, 255, 255, 255];
+        let line = |code, argument, result| format!("{:<73}|", asked((code, argument), result));
+        let wide = [255, 100, 2, 0, 255, 255, 255, 255];
         assert_eq!(
             line(2, wide, 12),
-            "request update  task 255  register 100  larger 4294967295 |"
+            "request update  task 255  register 100  add, stays at the top 4294967295 |"
+        );
+        assert_eq!(
+            line(2, [0, 1, 5, 0, 0, 1, 0, 0], 0),
+            "request update  task   0  register   1  add, comes round      256        |"
         );
         assert_eq!(
             line(4, [7, 31, 0, 0, 0, 0, 0, 0], 14),
-            "send read       task   7  to card   31                    |"
+            "send read       task   7  to card   31                                   |"
         );
         assert_eq!(
             line(6, [128, 0, 0, 0, 0, 0, 0, 0], 14),
-            "dispatch        card 128                                  |"
+            "dispatch        card 128                                                 |"
         );
         assert_eq!(
-            line(2, [0, 171, 5, 0, 0, 0, 0, 9], 13),
-            "bytes 02 00 ab 05 00 00 00 00 09                          |"
+            line(2, [0, 171, 6, 0, 0, 0, 0, 9], 13),
+            "bytes 02 00 ab 06 00 00 00 00 09                                         |"
         );
         assert_eq!(
             line(255, [0; 8], 10),
-            "bytes ff 00 00 00 00 00 00 00 00                          |"
+            "bytes ff 00 00 00 00 00 00 00 00                                         |"
         );
     }
 }

@@ -4,11 +4,14 @@ use borrow.Author.Needs.{needs}
 use Rattle.names.proofs.update.Statement.{statement}
 use Rattle.names.proofs.update.Tie as tie
 
-sum-requires : tie.Need-sum-requires
-sum-requires c κs = search needs
+raise-requires : tie.Need-raise-requires
+raise-requires c κs = search needs
 
 larger-requires : tie.Need-larger-requires
 larger-requires c κs = search needs
+
+sum-requires : tie.Need-sum-requires
+sum-requires c κs = search needs
 
 returns : tie.Need-returns
 unfolding updated
@@ -16,7 +19,7 @@ returns c = search (needs, cases)
 
 returns-2 : tie.Need-returns-2
 unfolding updated
-returns-2 c = rw (c .before .match .keys2) (c .sum .ensures)
+returns-2 c = rw (c .before .match .keys2) (c .raise .ensures)
 
 returns-3 : tie.Need-returns-3
 unfolding updated
@@ -28,9 +31,22 @@ returns-4 c = rw (c .match .keys4)
 
 returns-5 : tie.Need-returns-5
 unfolding updated
-returns-5 c = search (needs, cases)
+returns-5 c = rw (c .before .match .keys5) (c .sum .ensures)
+
+returns-6 : tie.Need-returns-6
+unfolding updated
+returns-6 c = search (needs, cases)
 
 pub update-spec : {M : Type 1} → statement M
 update-spec =
     tie.close
-    (tie.spec sum-requires larger-requires returns returns-2 returns-3 returns-4 returns-5)
+    (tie.spec
+    raise-requires
+    larger-requires
+    sum-requires
+    returns
+    returns-2
+    returns-3
+    returns-4
+    returns-5
+    returns-6)

@@ -1,10 +1,11 @@
 //! Runs in which the model picks the steps: mostly allowed moves, weighed by a mood.
 
-use super::{near, operand};
+use super::{about_the_top, known_function, near, operand};
 use crate::model::files::{RawStep, Run};
 use crate::model::placement::Placement;
 use crate::model::{has, Cards, Request, State, Task};
 use crate::random::Random;
+use crate::steps::request_update;
 
 /// What is likely for a while.
 #[derive(Clone, Debug)]
@@ -207,6 +208,14 @@ fn request(state: &State, random: &mut Random, mood: &Mood, task: u8) -> Option<
     if random.between(1, read + update) <= read {
         return Some((1, [task, register, 0, 0, 0, 0, 0, 0]));
     }
-    let [a, b, c, d] = operand(random).to_le_bytes();
-    Some((2, [task, register, random.byte(1, 4), 0, a, b, c, d]))
+    let operand = match random.percent(20) {
+        true => {
+            let primary = state.placement.registers[register as usize].primary;
+            let value = state.copy(primary as usize, register as usize);
+            about_the_top(random, value)
+        }
+        false => operand(random),
+    };
+    let function = known_function(random);
+    Some(request_update(task, register, function, operand))
 }

@@ -7,7 +7,7 @@ use super::calls::Calls;
 use super::memory::{shown, written};
 use super::stretch::stretch;
 use super::wild;
-use crate::generate::{any_placement, near, operand};
+use crate::generate::{any_placement, known_function, near, operand};
 use crate::model::channel::{Body, Message, Tagged};
 use crate::model::placement::Placement;
 use crate::model::{only, Cards, Request, State, Task};
@@ -34,7 +34,7 @@ fn request(random: &mut Random, placement: &Placement) -> Request {
         true => Request::Read { register },
         false => Request::Update {
             register,
-            function: random.byte(1, 4),
+            function: known_function(random),
             operand: operand(random),
         },
     }

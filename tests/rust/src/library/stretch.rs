@@ -72,7 +72,7 @@ pub fn stretch(random: &mut Random, state: &mut State) {
             state.channel.held[card].resize(most, more);
         }
         10 => {
-            let function = random.byte(0, 5);
+            let function = random.byte(0, 6);
             let register = past(random, registers);
             state.tasks[number] = Task::Asking(match random.percent(50) {
                 true => Request::Read { register },
@@ -126,7 +126,7 @@ fn stretch_message(random: &mut Random, placement: &Placement, message: &mut Mes
                     *register = new
                 }
                 Body::Request(Request::Update { function, .. }) => {
-                    *function = random.pick(&[1, 4, 0, 5, 255])
+                    *function = random.pick(&[1, 5, 0, 6, 255])
                 }
                 Body::Reply { value } => *value = operand(random),
             }

@@ -205,7 +205,7 @@ fn rows(store: &Store) -> Vec<Row> {
             name,
             channel,
             at + 3,
-            &[(1, true), (4, true), (0, false), (5, false), (MOST, false)],
+            &[(1, true), (5, true), (0, false), (6, false), (MOST, false)],
         );
         row(name, channel, at + 4, &[(0, true), (MOST, true)]);
         row(

@@ -6,7 +6,7 @@
 
 use super::channel::{Body, Message, Tagged, BEHIND, BROADCASTS, HELD, INBOX, OUTBOX};
 use super::placement::sizes_in_range;
-use super::{Cards, Request, State, Task, REQUESTS};
+use super::{Cards, Request, State, Task, FUNCTIONS, REQUESTS};
 
 /// A part of 8.6, by its letter, and whether a state has that fault. Of a state with a size out of
 /// range (8.6 a) nothing else is asked.
@@ -82,7 +82,7 @@ pub const FAULTS: [Fault; 20] = [
 fn unknown_function(request: &Request) -> bool {
     match request {
         Request::Read { .. } => false,
-        Request::Update { function, .. } => !(1..=4).contains(function),
+        Request::Update { function, .. } => !FUNCTIONS.contains(function),
     }
 }
 
@@ -258,7 +258,7 @@ mod tests {
         let asked = |request| after(|s| s.tasks[0] = Task::Asking(request));
         let read = Request::Read { register: 2 };
         assert_eq!(asked(read), ["e: a register asked for"]);
-        for (function, known) in [(0, false), (1, true), (4, true), (5, false)] {
+        for (function, known) in [(0, false), (1, true), (5, true), (6, false)] {
             let update = Request::Update {
                 register: 0,
                 function,

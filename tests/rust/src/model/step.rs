@@ -1,7 +1,7 @@
 //! A step's code and argument (RULES 3.3), and refusals 10 to 15, of who writes the step.
 
 use super::placement::Placement;
-use super::{Card, Refusal, Register, TaskNumber};
+use super::{Card, Refusal, Register, TaskNumber, FUNCTIONS};
 
 #[derive(Clone, Copy, Debug, PartialEq, Eq)]
 pub enum Step {
@@ -77,7 +77,7 @@ pub fn decode(code: u8, argument: [u8; 8], placement: &Placement) -> Result<Step
     if !names_task && first >= cards || code == 4 && second >= cards {
         return Err(14);
     }
-    if code == 2 && !(1..=4).contains(&function) {
+    if code == 2 && !FUNCTIONS.contains(&function) {
         return Err(15);
     }
     Ok(match code {
@@ -125,8 +125,8 @@ mod tests {
         assert_eq!(refusal(2, [4, 3, 0, 0, 0, 0, 0, 0]), 12);
         assert_eq!(refusal(2, [3, 3, 0, 0, 0, 0, 0, 0]), 13);
         assert_eq!(refusal(2, [3, 2, 0, 0, 0, 0, 0, 0]), 15);
-        assert_eq!(refusal(2, [3, 2, 5, 0, 0, 0, 0, 0]), 15);
-        assert_eq!(refusal(2, [3, 2, 4, 0, 1, 2, 3, 4]), 0);
+        assert_eq!(refusal(2, [3, 2, 6, 0, 0, 0, 0, 0]), 15);
+        assert_eq!(refusal(2, [3, 2, 5, 0, 1, 2, 3, 4]), 0);
         assert_eq!(refusal(4, [4, 2, 0, 0, 0, 0, 0, 0]), 12);
         assert_eq!(refusal(4, [3, 2, 0, 0, 0, 0, 0, 0]), 14);
     }

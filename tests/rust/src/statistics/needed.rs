@@ -1,7 +1,8 @@
 //! What generated files must reach, so that a comparison on them means something.
 
-use super::{Counts, Delivered, Found, Statistics, LIMITS};
+use super::{Counts, Delivered, Found, Statistics, Sum, LIMITS};
 use crate::model::sized::FAULTS;
+use crate::model::FUNCTIONS;
 
 /// From so many generated files on, or states made by hand, what they must reach is looked for.
 pub const FILES: u64 = 1_000;
@@ -11,6 +12,12 @@ pub const STATES: u64 = 10_000;
 fn refusals() -> impl Iterator<Item = u8> {
     (10..=15).chain(20..=22).chain(30..=35)
 }
+
+const SUMS: [(&str, Sum); 3] = [
+    ("at the top", Sum::AtTheTop),
+    ("one past it", Sum::OnePast),
+    ("further past it", Sum::FurtherPast),
+];
 
 /// What must be reached, by subject: its name, and how often it was.
 pub(super) struct Needed {
@@ -44,11 +51,25 @@ impl Statistics {
             .named()
             .map(|(name, limit)| format!("{name} {limit}"));
         let limits = limits.into_iter().zip(self.reached);
+        let sums = [2, 5].into_iter().flat_map(|function| {
+            SUMS.map(|(name, sum)| {
+                let count = times(&self.sums, (function, sum));
+                (format!("{function} {name}"), count)
+            })
+        });
         vec![
             numbers("files refused with", 1..=4, &self.files),
             numbers("steps refused with", refusals(), &self.results),
             numbers("steps taken with code", 1..=10, &self.codes),
-            numbers("updates asked for with function", 1..=4, &self.functions),
+            numbers(
+                "updates asked for with function",
+                FUNCTIONS,
+                &self.functions,
+            ),
+            Needed {
+                subject: "sums made by function",
+                items: sums.collect(),
+            },
             words(
                 "messages delivered",
                 [
@@ -183,12 +204,13 @@ mod tests {
         let missing = statistics.missing();
         let total: usize = statistics.needed().iter().map(|one| one.items.len()).sum();
         // It has 22, codes 2 and 3, function 1, and one card, register and task.
-        assert_eq!((total, missing.len()), (52, 52 - 7));
+        assert_eq!((total, missing.len()), (59, 59 - 7));
         for name in [
             "files refused with 4",
             "steps refused with 34",
             "steps taken with code 10",
             "updates asked for with function 4",
+            "sums made by function 2 at the top",
             "messages delivered reply to an update",
             "values above 0 reported from a reply",
             "files with 8 cards",
@@ -211,7 +233,7 @@ mod tests {
     #[test]
     fn each_thing_is_looked_for() {
         let all = of_seed(1, FILES);
-        let cases: [Taken; 9] = [
+        let cases: [Taken; 10] = [
             ("files refused with 2", |s| s.files.retain(|&n, _| n != 2)),
             ("steps refused with 35", |s| {
                 s.results.retain(|&n, _| n != 35)
@@ -221,6 +243,9 @@ mod tests {
             }),
             ("updates asked for with function 3", |s| {
                 s.functions.retain(|&n, _| n != 3)
+            }),
+            ("sums made by function 5 one past it", |s| {
+                s.sums.retain(|&sum, _| sum != (5, Sum::OnePast))
             }),
             ("messages delivered reply to a read", |s| {
                 s.delivered.retain(|&kind, _| kind != Delivered::ReadReply)

@@ -54,7 +54,7 @@ fn every_phrase() -> Vec<u8> {
         request_read(0, 3),
         dispatch(3),
         send_read(0, 3),
-        request_update(0, 0, 5, 7),
+        request_update(0, 0, 6, 7),
         perform(0),
         report(0),
         dispatch(0),
@@ -108,6 +108,19 @@ fn every_phrase() -> Vec<u8> {
         take_broadcast(2),
         deliver(2),
         report(2),
+        // Both sums at the top, at home.
+        set(2, 2, u32::MAX),
+        perform(2),
+        report(2),
+        request_update(2, 2, 2, 3),
+        perform(2),
+        report(2),
+        request_update(2, 2, 5, 3),
+        perform(2),
+        report(2),
+        request_read(2, 2),
+        perform(2),
+        report(2),
     ];
     // Updates, home is one of several holders, until card 1 is 64 behind.
     for number in 2..=64 {
@@ -125,7 +138,7 @@ fn every_phrase() -> Vec<u8> {
     Run { placement, steps }.write()
 }
 
-/// Steps that cannot be read: unknown codes, bytes that no code names, functions 0, 5 and 255,
+/// Steps that cannot be read: unknown codes, bytes that no code names, functions 0, 6 and 255,
 /// also where an absent task or register is noticed first.
 fn raw_bytes() -> Vec<u8> {
     let placement = Placement::new(2, &[0, 1], &[(0b11, 0)]);
@@ -146,7 +159,7 @@ fn raw_bytes() -> Vec<u8> {
             (code, [255; 8]),
         ]);
     }
-    for function in [0, 5, 255] {
+    for function in [0, 6, 255] {
         steps.push(request_update(0, 0, function, 7));
         steps.push(request_update(2, 0, function, 7));
         steps.push(request_update(0, 1, function, u32::MAX));
@@ -189,8 +202,8 @@ fn wide_numbers() -> Vec<u8> {
         steps.extend([
             request_read(byte, 0),
             request_read(0, byte),
-            request_update(byte, byte, 1 + byte % 4, operand),
-            request_update(15, byte, 1 + byte % 4, operand),
+            request_update(byte, byte, 1 + byte % 5, operand),
+            request_update(15, byte, 1 + byte % 5, operand),
             send_read(9, byte),
             dispatch(byte),
             report(byte),
@@ -228,15 +241,17 @@ mod tests {
         }
         for name in super::super::NAMES {
             let line = |line: &str| line[6..].starts_with(name) && line.ends_with("taken");
-            let steps = text.lines().filter(|line| line.len() > 64);
+            let steps = text.lines().filter(|line| line.len() > 79);
             let reports = text.lines().any(|line| line.ends_with("taken, value 5"));
             assert!(steps.clone().any(line) || name == "report" && reports);
         }
-        for name in super::super::FUNCTIONS {
+        for name in super::super::NAMED_FUNCTIONS {
             let column = |line: &str| line.get(46..).is_some_and(|rest| rest.starts_with(name));
             assert!(text.lines().any(column), "{name}");
         }
         assert!(text.contains("taken, value 0\n"));
+        // 4,294,967,295 and 3 with function 2, then 3 more with function 5.
+        assert!(text.contains("taken, value 2\n"));
     }
 
     #[test]
@@ -253,7 +268,7 @@ mod tests {
         let wide = text("wide_numbers");
         assert!(wide.starts_with("cards 8, registers 32, tasks 16, steps 1107\n"));
         assert_eq!(wide.matches("taken, value 4294967295\n").count(), 2);
-        assert!(wide.contains("  set    4294967295 taken\n"));
+        assert!(wide.contains("  set                   4294967295 taken\n"));
         for words in ["task 255  register 255", "card 255", "\n1106  report"] {
             assert!(wide.contains(words), "{words}");
         }

@@ -1,6 +1,7 @@
-use mathlib.Core.Path.{sym, _∙_}
+use mathlib.Core.Path.{ap, sym, _∙_}
 use borrow.Author.Needs.{needs}
-use borrow.Author.Tests.{eq-eqb, ne-eqb, lt-ltb, le-ltb, lt-leb, le-leb}
+use borrow.Author.Tests.{eq-eqb, ne-eqb, lt-ltb, le-ltb, not-true, not-false}
+use Rattle.names.specs.Update.{knownFunction}
 use Rattle.commands.specs.Decode.{updateNumber}
 use Rattle.commands.proofs.steps.update_number.Statement.{statement}
 use Rattle.commands.proofs.steps.update_number.Tie as tie
@@ -29,20 +30,16 @@ returns-3 c = simp (eq-eqb _ _ (sym (c .before .before .before .before .before .
 byte-requires-4 : tie.Need-byte-requires-4
 byte-requires-4 c κs = search needs
 
+known-function-requires : tie.Need-known-function-requires
+known-function-requires c κs = search needs
+
 returns-4 : tie.Need-returns-4
 unfolding updateNumber
-returns-4 c = simp (eq-eqb _ _ (sym (c .before .before .before .before .before .before .before .byte .ensures .0) ∙ c .before .before .before .before .before .before .if1 .left), lt-ltb _ _ (rw (c .before .before .before .before .before .byte2 .ensures .0) at (c .before .before .before .before .if2 .left)), lt-ltb _ _ (rw (c .before .before .before .byte3 .ensures .0) at (c .before .before .if3 .left)), lt-leb _ _ (rw (c .before .byte4 .ensures .0) at (c .if4 .taken)))
-
-byte-requires-5 : tie.Need-byte-requires-5
-byte-requires-5 c κs = search needs
+returns-4 c = simp (eq-eqb _ _ (sym (c .before .before .before .before .before .before .before .before .byte .ensures .0) ∙ c .before .before .before .before .before .before .before .if1 .left), lt-ltb _ _ (rw (c .before .before .before .before .before .before .byte2 .ensures .0) at (c .before .before .before .before .before .if2 .left)), lt-ltb _ _ (rw (c .before .before .before .before .byte3 .ensures .0) at (c .before .before .before .if3 .left)), ap knownFunction (sym (c .before .before .byte4 .ensures .0)) ∙ sym (c .before .known-function .ensures) ∙ not-true _ (c .if4 .taken))
 
 returns-5 : tie.Need-returns-5
 unfolding updateNumber
-returns-5 c = simp (eq-eqb _ _ (sym (c .before .before .before .before .before .before .before .before .before .byte .ensures .0) ∙ c .before .before .before .before .before .before .before .before .if1 .left), lt-ltb _ _ (rw (c .before .before .before .before .before .before .before .byte2 .ensures .0) at (c .before .before .before .before .before .before .if2 .left)), lt-ltb _ _ (rw (c .before .before .before .before .before .byte3 .ensures .0) at (c .before .before .before .before .if3 .left)), le-leb _ _ (rw (c .before .before .before .byte4 .ensures .0) at (c .before .before .if4 .left)), lt-leb _ _ (rw (c .before .byte5 .ensures .0) at (c .if5 .taken)))
-
-returns-6 : tie.Need-returns-6
-unfolding updateNumber
-returns-6 c = simp (eq-eqb _ _ (sym (c .before .before .before .before .before .before .before .before .before .byte .ensures .0) ∙ c .before .before .before .before .before .before .before .before .if1 .left), lt-ltb _ _ (rw (c .before .before .before .before .before .before .before .byte2 .ensures .0) at (c .before .before .before .before .before .before .if2 .left)), lt-ltb _ _ (rw (c .before .before .before .before .before .byte3 .ensures .0) at (c .before .before .before .before .if3 .left)), le-leb _ _ (rw (c .before .before .before .byte4 .ensures .0) at (c .before .before .if4 .left)), le-leb _ _ (rw (c .before .byte5 .ensures .0) at (c .if5 .left)))
+returns-5 c = simp (eq-eqb _ _ (sym (c .before .before .before .before .before .before .before .before .byte .ensures .0) ∙ c .before .before .before .before .before .before .before .if1 .left), lt-ltb _ _ (rw (c .before .before .before .before .before .before .byte2 .ensures .0) at (c .before .before .before .before .before .if2 .left)), lt-ltb _ _ (rw (c .before .before .before .before .byte3 .ensures .0) at (c .before .before .before .if3 .left)), ap knownFunction (sym (c .before .before .byte4 .ensures .0)) ∙ sym (c .before .known-function .ensures) ∙ not-false _ (c .if4 .left))
 
 pub update-number-spec : {M : Type 1} → statement M
 update-number-spec =
@@ -55,7 +52,6 @@ update-number-spec =
     byte-requires-3
     returns-3
     byte-requires-4
+    known-function-requires
     returns-4
-    byte-requires-5
-    returns-5
-    returns-6)
+    returns-5)

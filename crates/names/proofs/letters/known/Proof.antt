@@ -1,6 +1,6 @@
+use Rattle.lists.specs.Tests.{cases}
 use Rattle.names.specs.Letters.{known}
 use borrow.Author.Needs.{needs}
-use Rattle.lists.specs.Tests.{cases}
 use Rattle.names.proofs.letters.known.Statement.{statement}
 use Rattle.names.proofs.letters.known.Tie as tie
 
@@ -10,9 +10,8 @@ enum-told c = search needs
 enum-known-body : tie.Need-enum-known-body
 enum-known-body c = search needs
 
-returns : tie.Need-returns
-unfolding known
-returns c = rw (c .before .before .body .given .1) (search (needs, cases))
+known-function-requires : tie.Need-known-function-requires
+known-function-requires c κs = search needs
 
 enum-told-2 : tie.Need-enum-told-2
 enum-told-2 c = search needs
@@ -20,21 +19,32 @@ enum-told-2 c = search needs
 enum-told-3 : tie.Need-enum-told-3
 enum-told-3 c = search needs
 
+returns : tie.Need-returns
+unfolding known
+returns c = search (needs, cases)
+
 returns-2 : tie.Need-returns-2
 unfolding known
-returns-2 c = search (needs, cases)
+returns-2 c = rw (c .before .before .body .given .1) (c .known-function .ensures)
 
 returns-3 : tie.Need-returns-3
 unfolding known
-returns-3 c = rw (c .before .before .body .given .1) (search (needs, cases))
+returns-3 c = search (needs, cases)
 
 returns-4 : tie.Need-returns-4
 unfolding known
 returns-4 c = search (needs, cases)
 
-returns-5 : tie.Need-returns-5
-unfolding known
-returns-5 c = search (needs, cases)
-
 pub known-spec : {M : Type 1} → statement M
-known-spec = tie.close (tie.spec enum-told enum-known-body returns enum-told-2 enum-told-3 returns-2 returns-3 returns-4 returns-5)
+known-spec =
+    tie.close
+    (tie.spec
+    enum-told
+    enum-known-body
+    known-function-requires
+    enum-told-2
+    enum-told-3
+    returns
+    returns-2
+    returns-3
+    returns-4)

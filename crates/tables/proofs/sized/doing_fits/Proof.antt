@@ -19,6 +19,9 @@ enum-known-doing-2 c = search needs
 registers-requires-2 : tie.Need-registers-requires-2
 registers-requires-2 c κs = search needs
 
+known-function-requires : tie.Need-known-function-requires
+known-function-requires c κs = search needs
+
 enum-told-2 : tie.Need-enum-told-2
 enum-told-2 c = search needs
 
@@ -38,7 +41,7 @@ returns-2 c = rw (c .before .before .before .doing .given .1, c .before .registe
 
 returns-3 : tie.Need-returns-3
 unfolding doingFits
-returns-3 c = rw (c .before .before .before .doing2 .given .1, c .before .registers2 .ensures .0)
+returns-3 c = rw (c .before .before .before .before .doing2 .given .1, c .before .before .registers2 .ensures .0, c .known-function .ensures)
 
 returns-4 : tie.Need-returns-4
 unfolding doingFits
@@ -61,6 +64,7 @@ doing-fits-spec =
     registers-requires
     enum-known-doing-2
     registers-requires-2
+    known-function-requires
     enum-told-2
     enum-told-3
     enum-told-4
