@@ -1,13 +1,30 @@
-//! The proved store and the model in plain Rust on the same guided files of 4,096 steps, in one run:
+//! Three stores on the same guided files of 4,096 steps, in one run:
 //!   rt staticlib firmware && cargo run --release --offline --manifest-path bench/Cargo.toml
-//! Processor time, medians of rounds taken in turn. Every round begins from a new state; outputs are
-//! not cleared between rounds. The model is ordinary Rust (Vec, VecDeque), not tuned. Of a whole run the
-//! file is read and the answer written too; a checked step begins with the check of the whole state; an
-//! unchecked one is `advance` on one side, and on the other the model's step alone.
+//!
+//! - proved: the library, called through its Rust crate, so a call across languages for every step;
+//! - plain: the model of tests/rust, ordinary Rust (Vec, VecDeque), not tuned;
+//! - tuned: bench/tuned, portable safe Rust, flat, packed, tuned by hand as firmware ships it: no heap,
+//!   one copy of the step, and a check of the whole state that looks at what the proved one looks at
+//!   (RULES 8.6). Left out, though quicker still: code without branches where a step chooses, reading
+//!   ahead, and a second copy of the step inside the loop of a whole run.
+//!
+//! The Rust sides are built for any processor of the machine's kind. Of a whole run the file is read and the answer
+//! written too. A checked step begins with the check of the whole state, each side's own; an unchecked
+//! one is `advance` of the library and `step_reached` of the others.
+//!
+//! Processor time, medians of rounds taken in turn. Every round begins from new states; outputs are
+//! not cleared between rounds. In each round all sides must answer the same. Before that, the tuned
+//! side is compared with the model on files of every kind (`agree`); its states made by hand are
+//! tried by `cargo test`.
+
+mod agree;
+mod clock;
 
 use std::hint::black_box;
+use std::mem::size_of;
 
-use gondzselu::{Refusal, Store};
+use clock::{median, timed};
+use gondzselu::Refusal;
 use gondzselu_model::generate::{file_of, Kind};
 use gondzselu_model::model::files::{answer_into, Run};
 use gondzselu_model::model::tally::Tally;
@@ -18,36 +35,8 @@ const FILES: usize = 8;
 const ROUNDS: usize = 101;
 const STEPS: usize = 4_096;
 
-#[repr(C)]
-struct Time {
-    seconds: i64,
-    nanoseconds: i64,
-}
-
-extern "C" {
-    fn clock_gettime(clock: i32, time: *mut Time) -> i32;
-}
-
-/// Processor time of this thread, in nanoseconds: what else the machine does hardly counts.
-fn spent() -> f64 {
-    let mut time = Time {
-        seconds: 0,
-        nanoseconds: 0,
-    };
-    assert_eq!(unsafe { clock_gettime(3, &mut time) }, 0);
-    time.seconds as f64 * 1e9 + time.nanoseconds as f64
-}
-
-fn timed<T>(action: impl FnOnce() -> T) -> (f64, T) {
-    let begin = spent();
-    let result = black_box(action());
-    (spent() - begin, result)
-}
-
-fn median(mut times: Vec<f64>) -> f64 {
-    times.sort_by(f64::total_cmp);
-    times[times.len() / 2]
-}
+/// Of the proved, the plain and the tuned side.
+type Sides<T> = [T; 3];
 
 /// The first guided files of a seed that have the most steps.
 fn files() -> Vec<Vec<u8>> {
@@ -56,33 +45,66 @@ fn files() -> Vec<Vec<u8>> {
     longest.take(FILES).collect()
 }
 
-/// The store's steps one by one, then the model's, by these two.
-fn steps(
-    file: &[u8],
+/// The whole run on each side.
+fn whole(file: &[u8], outputs: &mut Sides<Vec<u8>>, tally: &mut Tally) -> Sides<f64> {
+    let [proved, plain, tuned] = outputs;
+    let sides = [
+        timed(|| gondzselu::answer(black_box(file), proved).map_or_else(Refusal::number, |_| 0)),
+        timed(|| answer_into(black_box(file), plain, tally)),
+        timed(|| tuned::answer(black_box(file), tuned)),
+    ];
+    assert_eq!(sides.map(|(_, refusal)| refusal), [0; 3]);
+    assert!(proved == plain && tuned == plain, "other answers");
+    sides.map(|(time, _)| time)
+}
+
+/// All steps one by one on each side.
+fn steps(file: &[u8], run: &Run, checked: bool) -> Sides<f64> {
+    let proved = gondzselu::Store::start_from_file(file).expect("an accepted file");
+    let plain = State::start(run.placement.clone()).expect("an accepted placement");
+    let mut tuned = tuned::Store::unstarted();
+    assert_eq!(tuned.start_from_file(file), 0);
+    let sides = if checked {
+        [
+            played(run, proved, |store, code, argument| {
+                numbers(store.step_bytes(code, argument))
+            }),
+            played(run, plain, State::step),
+            played(run, tuned, tuned::Store::step),
+        ]
+    } else {
+        [
+            played(run, proved, |store, code, argument| {
+                numbers(store.advance_bytes(code, argument))
+            }),
+            played(run, plain, State::step_reached),
+            played(run, tuned, tuned::Store::step_reached),
+        ]
+    };
+    let [proved, plain, tuned] = sides.map(|(_, answers)| answers);
+    assert!(proved == plain && tuned == plain, "other answers");
+    sides.map(|(time, _)| time)
+}
+
+/// The time of a run's steps from a state, and a sum of their answers.
+fn played<S>(
     run: &Run,
-    proved: impl Fn(&mut Store, u8, [u8; 8]) -> Result<u32, Refusal>,
-    plain: impl Fn(&mut State, u8, [u8; 8]) -> (u8, u32),
-) -> [f64; 2] {
-    let mut store = Store::start_from_file(file).expect("an accepted file");
-    let mut state = State::start(run.placement.clone()).expect("an accepted placement");
-    let numbers = |answer: Result<u32, Refusal>| match answer {
+    mut state: S,
+    step: impl Fn(&mut S, u8, [u8; 8]) -> (u8, u32),
+) -> (f64, u32) {
+    timed(|| {
+        let steps = run.steps.iter();
+        steps
+            .map(|&(code, argument)| step(&mut state, code, argument))
+            .fold(0, sum)
+    })
+}
+
+fn numbers(answer: Result<u32, Refusal>) -> (u8, u32) {
+    match answer {
         Ok(value) => (0, value),
         Err(refusal) => (refusal.number(), 0),
-    };
-    let (first_time, first) = timed(|| {
-        let steps = run.steps.iter();
-        steps
-            .map(|&(code, argument)| numbers(proved(&mut store, code, argument)))
-            .fold(0, sum)
-    });
-    let (second_time, second) = timed(|| {
-        let steps = run.steps.iter();
-        steps
-            .map(|&(code, argument)| plain(&mut state, code, argument))
-            .fold(0, sum)
-    });
-    assert_eq!(first, second);
-    [first_time, second_time]
+    }
 }
 
 fn sum(total: u32, (result, value): (u8, u32)) -> u32 {
@@ -92,30 +114,23 @@ fn sum(total: u32, (result, value): (u8, u32)) -> u32 {
         .wrapping_add(value)
 }
 
-/// The whole run, by the store and by the model.
-fn whole(file: &[u8], output: &mut [u8], wanted: &mut [u8], tally: &mut Tally) -> [f64; 2] {
-    let (proved, answer) = timed(|| gondzselu::answer(black_box(file), output));
-    let (plain, expected) = timed(|| answer_into(black_box(file), wanted, tally));
-    assert_eq!(answer.map_or_else(Refusal::number, |_| 0), expected);
-    assert_eq!(output, wanted);
-    [proved, plain]
-}
-
 fn main() {
-    let mut ratios = [const { Vec::new() }; 3];
-    println!("nanoseconds a step: proved, plain, ratio");
-    println!("file  taken |     whole run      |   checked steps     |  unchecked steps");
+    let (compared, steps_compared) = agree::tuned_with_model();
+    println!("tuned and plain agree: {compared} files, {steps_compared} steps");
+    println!("nanoseconds a step: proved, plain, tuned");
+    println!("file  taken |      whole run       |    checked steps     |   unchecked steps");
+    let mut ratios = [const { [const { Vec::new() }; 2] }; 3];
     for (number, file) in files().into_iter().enumerate() {
         let run = Run::read(&file).expect("an accepted file");
-        let mut times = [const { [const { Vec::new() }; 2] }; 3];
+        let mut times = [const { [const { Vec::new() }; 3] }; 3];
+        let mut outputs = [0; 3].map(|byte| vec![byte; 2 + 5 * STEPS]);
         let mut taken = 0;
-        let (mut output, mut wanted) = (vec![0; 2 + 5 * STEPS], vec![0; 2 + 5 * STEPS]);
         for _ in 0..ROUNDS {
             let mut tally = Tally::default();
             let round = [
-                whole(&file, &mut output, &mut wanted, &mut tally),
-                steps(&file, &run, Store::step_bytes, State::step),
-                steps(&file, &run, Store::advance_bytes, State::step_reached),
+                whole(&file, &mut outputs, &mut tally),
+                steps(&file, &run, true),
+                steps(&file, &run, false),
             ];
             taken = tally.taken;
             for (times, time) in times.iter_mut().flatten().zip(round.into_iter().flatten()) {
@@ -123,14 +138,20 @@ fn main() {
             }
         }
         print!("{number:>4} {taken:>6}");
-        for (pair, ratios) in times.into_iter().zip(&mut ratios) {
-            let [proved, plain] = pair.map(median);
-            print!(" | {proved:>6.1} {plain:>6.1} {:>4.2}", proved / plain);
-            ratios.push(proved / plain);
+        for (sides, [to_plain, to_tuned]) in times.into_iter().zip(&mut ratios) {
+            let [proved, plain, tuned] = sides.map(median);
+            print!(" | {proved:>6.1} {plain:>6.1} {tuned:>6.1}");
+            to_plain.push(proved / plain);
+            to_tuned.push(proved / tuned);
         }
         println!();
     }
-    let [whole, checked, unchecked] = ratios.map(median);
-    println!("median ratios: whole runs {whole:.2}, checked steps {checked:.2}, unchecked {unchecked:.2}");
-    println!("a store: {} bytes", std::mem::size_of::<Store>());
+    let ratios = ratios.map(|ratios| ratios.map(median));
+    for (side, name) in ["plain", "tuned"].into_iter().enumerate() {
+        let [whole, checked, unchecked] = ratios.map(|ratios| ratios[side]);
+        print!("median ratios proved/{name}: ");
+        println!("whole runs {whole:.2}, checked steps {checked:.2}, unchecked {unchecked:.2}");
+    }
+    let (proved, tuned) = (size_of::<gondzselu::Store>(), size_of::<tuned::Store>());
+    println!("a store: proved {proved} bytes, tuned {tuned} bytes");
 }

@@ -3,10 +3,11 @@
  * docs/RULES.md and cited by number ("RULES 8.5"): what the steps do, when they are refused, what
  * is promised of a run. firmware/c/k9.c is a first program.
  *
- * Memory    A store is two memories that the caller lends, changed in place, aligned as uint32_t.
- *           Each has its type, so that swapped ones do not compile (older C compilers only warn:
- *           use -Werror). Any words are safe to lend (RULES 11.2). The library keeps nothing
- *           elsewhere, and needs memcpy and memset and no other function.
+ * Memory    A store is two memories that the caller lends, changed in place, aligned as uint32_t:
+ *           7,828 bytes. Each has its type, so that swapped ones do not compile (older C compilers
+ *           only warn: use -Werror). Any words are safe to lend (RULES 11.2). What lies where is in
+ *           RULES 11.12; a store kept by a library of before 0.4.0 is no store here. The library
+ *           keeps nothing elsewhere, and needs memcpy and memset and no other function.
  * Pointers  None is NULL, also where a length is 0. What a call writes overlaps nothing else that
  *           it is given (RULES 11.2).
  * Threads   One caller at a time for a store; an interrupt is a caller too. Calls that only read,
@@ -31,7 +32,7 @@ extern "C" {
 /* ---- version */
 
 #define GONDZSELU_VERSION_MAJOR 0
-#define GONDZSELU_VERSION_MINOR 3
+#define GONDZSELU_VERSION_MINOR 4
 #define GONDZSELU_VERSION_PATCH 0
 #define GONDZSELU_VERSION \
     (GONDZSELU_VERSION_MAJOR * 1000000 + GONDZSELU_VERSION_MINOR * 1000 + GONDZSELU_VERSION_PATCH)
@@ -49,13 +50,13 @@ uint32_t gondzselu_version(void);
 #define GONDZSELU_FILE_MAX 36949     /* bytes of the longest run file */
 #define GONDZSELU_ANSWER_MAX 20482   /* bytes of the longest answer file */
 #define GONDZSELU_SENTENCE_MAX 55    /* bytes of the longest sentence; no zero byte ends it */
-#define GONDZSELU_REGISTERS_WORDS 1544
-#define GONDZSELU_CHANNEL_WORDS 4808
+#define GONDZSELU_REGISTERS_WORDS 593
+#define GONDZSELU_CHANNEL_WORDS 1364
 
 /* Bytes of stack that a call uses at most: gondzselu_answer and gondzselu_answer_counted, which
  * have a store of their own there; and any other call. Measured by firmware/c/stack.c and rounded
  * up, not proved. */
-#define GONDZSELU_STACK_ANSWER 28672
+#define GONDZSELU_STACK_ANSWER 10240
 #define GONDZSELU_STACK_CALL 1024
 
 /* ---- types */
@@ -187,9 +188,9 @@ uint8_t gondzselu_step_counted(gondzselu_registers *registers, gondzselu_channel
                                gondzselu_tally *tally);
 
 /* gondzselu_step without its check of the state, which in a large store is nearly all of its time:
- * some 20 ns instead of 0.3 microseconds and more. For a store that only this library has written
- * since its start: on every well-sized state (RULES 8.6) it does what gondzselu_step does. On other
- * words it ends and stays inside what it is lent; what it gives and writes then means nothing. */
+ * some 20 ns instead of 0.15 microseconds. For a store that only this library has written since its
+ * start: on every well-sized state (RULES 8.6) it does what gondzselu_step does. On other words it
+ * ends and stays inside what it is lent; what it gives and writes then means nothing. */
 uint8_t gondzselu_advance(gondzselu_registers *registers, gondzselu_channel *channel,
                           uint8_t code, const uint8_t argument[8], uint32_t *value);
 

@@ -9,6 +9,7 @@ use lib.Seq.{getD-set-same, getD-set-other}
 use Rattle.lists.specs.Tests.{and-intro}
 use Rattle.lists.specs.Listings.{listing}
 use Rattle.automaton.specs.State.{initialChannel}
+use Rattle.names.specs.Letters.{kindIn}
 use Rattle.channel.specs.Layout.{takenWord, headWord, countWord, heldWord, flightBlock}
 use Rattle.channel.specs.Begin.{sizesFit, begun}
 use Rattle.channel.specs.TakeSingle.{noFlight}
@@ -17,21 +18,21 @@ use Rattle.channel.specs.Shows.{inboxOf, heldOf, flightOf, Shows}
 use Rattle.channel.proofs.WellSizedParts.{Fit}
 
 abbrev blank : List ℕ
-blank = replicate 4808 0
+blank = replicate 1364 0
 
 zeros : (n a : ℕ) → getD (replicate {A = ℕ} n 0) a 0 ≡ 0
 zeros zero a = refl
 zeros (suc n) zero = refl
 zeros (suc n) (suc a) = zeros n a
 
-blank-long : length blank ≡ 4808
-blank-long = length-replicate {A = ℕ} 4808 0
+blank-long : length blank ≡ 1364
+blank-long = length-replicate {A = ℕ} 1364 0
 
 module _ (cards tasks registers : ℕ) (ok : sizesFit cards tasks registers ≡ true) where
   abbrev ws : List ℕ
   ws = begun cards tasks registers
 
-  pub begun-long : length ws ≡ 4808
+  pub begun-long : length ws ≡ 1364
   unfolding begun
   begun-long = simp (length-set, blank-long)
 
@@ -41,7 +42,7 @@ module _ (cards tasks registers : ℕ) (ok : sizesFit cards tasks registers ≡ 
   nothing a h =
       getD-set-other (set (set blank 0 cards) 1 tasks) 2 a registers 0 (omega arith)
       ∙ getD-set-other (set blank 0 cards) 1 a tasks 0 (omega arith)
-      ∙ getD-set-other blank 0 a cards 0 (omega arith) ∙ zeros 4808 a
+      ∙ getD-set-other blank 0 a cards 0 (omega arith) ∙ zeros 1364 a
 
   pub cards-is : getD ws 0 0 ≡ cards
   unfolding begun
@@ -63,20 +64,20 @@ module _ (cards tasks registers : ℕ) (ok : sizesFit cards tasks registers ≡ 
       (omega (arith, blank-long, length-set blank 0 cards, length-set (set blank 0 cards) 1 tasks))
 
   pub begun-shows : Shows ws initialChannel
-  unfolding inboxOf heldOf flightOf noFlight listing
+  unfolding inboxOf heldOf flightOf noFlight kindIn listing
   begun-shows =
       let m = nothing 3 (omega arith) in
       record {
         made= = sym m;
         sent= = λ n p q. absurd (omega arith);
         taken= = λ i c. sym (nothing (takenWord i) (omega arith));
-        flight= = λ t h. rw (nothing (flightBlock t * 8) (omega arith));
+        flight= = λ t h. rw (nothing (flightBlock t) (omega arith));
         held= = λ i c. rw (nothing (heldWord i) (omega arith));
         inbox= = λ i c. rw (nothing (countWord i) (omega arith));
       }
 
   pub begun-fit : Fit ws
-  unfolding headFits flightFits noFlight
+  unfolding headFits flightFits noFlight kindIn
   begun-fit =
       let m = nothing 3 (omega arith) in
       record {
@@ -95,6 +96,6 @@ module _ (cards tasks registers : ℕ) (ok : sizesFit cards tasks registers ≡ 
               inbox = λ k h. absurd (omega arith);
               helds = λ k h. absurd (omega arith);
             };
-        flight = λ t h. rw (nothing (flightBlock t * 8) (omega arith));
+        flight = λ t h. rw (nothing (flightBlock t) (omega arith));
         recent = λ k p h. absurd (omega arith);
       }

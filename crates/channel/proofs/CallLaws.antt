@@ -26,7 +26,7 @@ use Rattle.channel.specs.Answers.{answerNumber, receivedNumber, isDone}
 use Rattle.channel.specs.Inbox.{gotOf, popped, receiveAnswer, receiveMemory}
 use Rattle.channel.specs.TakeBroadcast.{takeAnswer, takeMemory}
 use Rattle.channel.specs.TakeSingle.{singleAnswer, singleMemory}
-use Rattle.channel.specs.Dispatch.{castAnswer, castMemory, flyAnswer, flyMemory, letterOf, dispatchAnswer, dispatchMemory}
+use Rattle.channel.specs.Dispatch.{castAnswer, castMemory, flyAnswer, flyMemory, letterTo, dispatchAnswer, dispatchMemory}
 use Rattle.channel.specs.Sized.{wellSized}
 use Rattle.channel.specs.Shows.{letterMail, Shows, stateOf}
 use Rattle.automaton.specs.Calls.{done}
@@ -99,7 +99,7 @@ fly-alone ws i l h = left-alone ws _ (flyAnswer ws l) h
 
 -- ---- the four calls
 
-module _ (ws : List ℕ) (w : ChannelState Letter) (long : length ws ≡ 4808) (ok : wellSized ws ≡ true) (v : Shows ws w) where
+module _ (ws : List ℕ) (w : ChannelState Letter) (long : length ws ≡ 1364) (ok : wellSized ws ≡ true) (v : Shows ws w) where
   f : Fit ws
   f = fit-of ws ok
 
@@ -113,7 +113,7 @@ module _ (ws : List ℕ) (w : ChannelState Letter) (long : length ws ≡ 4808) (
 
   dispatch-refusal : (card : Card) (m : Message) (to : ℕ)
       → cond (ltb (card .0) (cardsOf ws))
-      (orElse (channelRefusal letterMail (cardsOf ws) w (dispatch (card .0) (letterOf card m to))) (otherwise 6 (fits ws (letterOf card m to)))) 14
+      (orElse (channelRefusal letterMail (cardsOf ws) w (dispatch (card .0) (letterTo m to))) (otherwise 6 (fits ws (letterTo m to)))) 14
       ≡ callRefusal ws w (actionOf (dispatchCall card m to))
   unfolding callRefusal
   dispatch-refusal card m to = present (ltb (card .0) (cardsOf ws)) _ 14 (omega arith)
@@ -149,7 +149,7 @@ module _ (ws : List ℕ) (w : ChannelState Letter) (long : length ws ≡ 4808) (
       }
     where
       l : Letter
-      l = letterOf card m to
+      l = letterTo m to
 
       alone : (b c : Bool) → answerNumber (cond b (cond c (castAnswer ws l) (flyAnswer ws l)) NoCard) ≢ 0
           → cond b (cond c (castMemory ws l) (flyMemory ws (card .0) l)) ws ≡ ws
@@ -220,5 +220,5 @@ shows-state ws = record {
 }
 
 -- so each call on a well-sized memory follows the idealised channel, whether or not calls ever lead to it
-pub any-follows : (ws : List ℕ) → length ws ≡ 4808 → wellSized ws ≡ true → (c : Call) → CallFollows ws (stateOf ws) c
+pub any-follows : (ws : List ℕ) → length ws ≡ 1364 → wellSized ws ≡ true → (c : Call) → CallFollows ws (stateOf ws) c
 any-follows ws long ok c = call-follows ws (stateOf ws) long ok (shows-state ws) c

@@ -21,17 +21,13 @@ use Rattle.names.specs.CardSet.{several}
 use Rattle.channel.specs.Letters.{fits}
 use Rattle.channel.specs.Answers.{answerNumber, isDone}
 use Rattle.channel.specs.TakeSingle.{noFlight}
-use Rattle.channel.specs.Dispatch.{nearAt, near, castAnswer, castMemory, flyAnswer, flyMemory, letterOf, dispatchAnswer, dispatchMemory}
+use Rattle.channel.specs.Dispatch.{nearAt, near, castAnswer, castMemory, flyAnswer, flyMemory, letterTo, dispatchAnswer, dispatchMemory}
 use Rattle.channel.specs.Shows.{letterMail, taggedAt, flightOf, Shows}
 use Rattle.channel.specs.MemoryCalls.{orElse}
 use Rattle.channel.proofs.SizedFacts.{Sized}
 use Rattle.channel.proofs.AnswerNumbers.{picked, settle}
+use Rattle.channel.proofs.LetterFits.{fits-is, fits-packs}
 use Rattle.channel.proofs.Sending.{fly-shows, cast-shows}
-
--- a fitting letter is of a task that is present
-pub fits-task : (ws : List ℕ) (l : Letter) → fits ws l ≡ true → l .message .task .0 < tasksOf ws
-unfolding fits
-fits-task ws l e = ltb-true _ _ (and-fst _ _ (and-fst _ _ (and-fst _ _ (and-fst _ _ e))))
 
 module _ (ws : List ℕ) (w : ChannelState Letter) (z : Sized ws) (v : Shows ws w) where
   -- 34 looks at each present card
@@ -69,7 +65,7 @@ module _ (ws : List ℕ) (w : ChannelState Letter) (z : Sized ws) (v : Shows ws 
       go : (b : Bool) → fits ws l ≡ b → answerNumber (cond b (cond (noFlight ws (l .message .task .0)) Done IllSized) IllSized)
           ≡ orElse (flightRefusal letterMail (cardsOf ws) (w .flight (l .message .task .0))) (otherwise 6 b)
       go true e =
-          rw (v .flight= (l .message .task .0) (fits-task ws l e)) (slot (noFlight ws (l .message .task .0)) (taggedAt ws (flightBlock (l .message .task .0))))
+          rw (v .flight= (l .message .task .0) (fits-is ws l e .task)) (slot (noFlight ws (l .message .task .0)) (taggedAt ws (flightBlock (l .message .task .0))))
       go false e = bad (w .flight (l .message .task .0))
 
   module _ (card : Card) (m : Message) (to : ℕ) where
@@ -77,7 +73,7 @@ module _ (ws : List ℕ) (w : ChannelState Letter) (z : Sized ws) (v : Shows ws 
     i = card .0
 
     abbrev l : Letter
-    l = letterOf card m to
+    l = letterTo m to
 
     -- 14, 34, 6 as the idealised step has them; 6 too for a letter that does not fit
     pub dispatch-number : answerNumber (dispatchAnswer ws card m to)
@@ -93,8 +89,10 @@ module _ (ws : List ℕ) (w : ChannelState Letter) (z : Sized ws) (v : Shows ws 
 
     cast-left : Shows (castMemory ws l)
         (cond (eqb (orElse (broadcastRefusal letterMail (cardsOf ws) w) (otherwise 6 (fits ws l))) 0) (dispatching letterMail true w i l) w)
-    unfolding castMemory
-    cast-left = settle ws _ w _ (castAnswer ws l) _ (cast-number l) v (λ e. cast-shows ws w z v i l)
+    unfolding castMemory castAnswer isDone
+    cast-left =
+        settle ws _ w _ (castAnswer ws l) _ (cast-number l) v
+        (λ e. cast-shows ws w z v i l (fits-packs ws l (picked (fits ws l) _ IllSized refl (picked (near ws) _ FarBehind refl e .1) .0)))
 
     fly-left : i < cardsOf ws
         → Shows (flyMemory ws i l)
@@ -102,7 +100,7 @@ module _ (ws : List ℕ) (w : ChannelState Letter) (z : Sized ws) (v : Shows ws 
     unfolding flyMemory flyAnswer isDone
     fly-left c =
         settle ws _ w _ (flyAnswer ws l) _ (fly-number l) v
-        (λ e. fly-shows ws w z v i l c (fits-task ws l (picked (fits ws l) _ IllSized refl e .0)))
+        (λ e. let f = picked (fits ws l) _ IllSized refl e .0 in fly-shows ws w z v i l c (fits-is ws l f .task) (fits-packs ws l f))
 
     pub dispatch-left : Shows (dispatchMemory ws card m to)
         (cond (eqb (cond (ltb i (cardsOf ws)) (orElse (dispatchRefusal letterMail (cardsOf ws) w l) (otherwise 6 (fits ws l))) 14) 0) (dispatching letterMail (several to) w i l) w)

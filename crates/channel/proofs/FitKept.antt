@@ -9,51 +9,52 @@ use lib.ListN.{length}
 use Rattle.lists.specs.Tests.{clash, and-fst, and-snd}
 use Rattle.names.specs.CardSet.{single, soleOf}
 use Rattle.names.specs.declared.Letter.{Letter}
+use Rattle.names.specs.declared.Packet.{Packet}
 use Rattle.channel.specs.Layout.{madeWord, flightBlock, cardsOf, madeOf}
-use Rattle.names.specs.Letters.{letterAt}
-use Rattle.channel.specs.Letters.{fits}
+use Rattle.names.specs.Letters.{letterOf, packetAt, letterAt}
 use Rattle.channel.specs.TakeSingle.{noFlight, flightTag}
-use Rattle.channel.specs.Sized.{blockFits, flightFits, headFits}
+use Rattle.channel.specs.Sized.{packetFits, taggedFits, flightFits, headFits}
 use Rattle.channel.proofs.Destinations.{sole-present}
 use Rattle.channel.proofs.SizedFacts.{Sized, cards-most}
 use Rattle.channel.proofs.Frame.{Outside, outside-word}
 use Rattle.channel.specs.MemoryCalls.{SameSizes}
 use Rattle.channel.proofs.WellSizedParts.{CardFit, Fit, same-cards, same-tasks, flight-same, broadcast-same, card-same}
-use Rattle.channel.proofs.FitQueues.{fits-to, fits-small, block-letter, block-tag}
+use Rattle.channel.proofs.LetterFits.{fits-to, fits-small, packet-letter, tagged-packet, tagged-small}
 
 -- a message in flight
-pub record FlightLetter (ws : List ℕ) (t : ℕ) (l : Letter) : Type 0 where
-  pub fit : fits ws l ≡ true
-  pub one : single (l .to) ≡ true
-  pub present : soleOf (l .to) < cardsOf ws
+pub record FlightPacket (ws : List ℕ) (t : ℕ) (p : Packet) : Type 0 where
+  pub fit : packetFits ws p ≡ true
+  pub one : single (letterOf p .to) ≡ true
+  pub present : soleOf (letterOf p .to) < cardsOf ws
   pub small : flightTag ws t ≤ 65535
 
 or-right : (a b : Bool) → (a || b) ≡ true → a ≡ false → b ≡ true
 or-right true b e f = absurd (clash refl f)
 or-right false b e f = e
 
-pub flight-letter : (ws : List ℕ) (t : ℕ) → flightFits ws t ≡ true → noFlight ws t ≡ false → FlightLetter ws t (letterAt ws (flightBlock t))
+pub flight-packet : (ws : List ℕ) (t : ℕ) → flightFits ws t ≡ true → noFlight ws t ≡ false → FlightPacket ws t (packetAt ws (flightBlock t))
 unfolding flightFits
-flight-letter ws t e n =
+flight-packet ws t e n =
     let l : Letter = letterAt ws (flightBlock t) in
-    let u = or-right (noFlight ws t) (blockFits ws ws (flightBlock t) && single (l .to)) e n in
-    let b = and-fst (blockFits ws ws (flightBlock t)) (single (l .to)) u in
-    let o = and-snd (blockFits ws ws (flightBlock t)) (single (l .to)) u in
-    let f = block-letter ws ws (flightBlock t) b in
+    let u = or-right (noFlight ws t) (taggedFits ws (flightBlock t) && single (l .to)) e n in
+    let b = and-fst (taggedFits ws (flightBlock t)) (single (l .to)) u in
+    let o = and-snd (taggedFits ws (flightBlock t)) (single (l .to)) u in
+    let p = tagged-packet ws (flightBlock t) b in
+    let f = packet-letter ws (packetAt ws (flightBlock t)) p in
     record {
-      fit = f;
+      fit = p;
       one = o;
       present = sole-present (l .to) (fits-small ws l f) o (cardsOf ws) (fits-to ws l f);
-      small = block-tag ws ws (flightBlock t) b;
+      small = tagged-small ws (flightBlock t) b;
     }
 
-pub sized-of : (ws : List ℕ) → length ws ≡ 4808 → Fit ws → Sized ws
+pub sized-of : (ws : List ℕ) → length ws ≡ 1364 → Fit ws → Sized ws
 sized-of ws long f = record {
   long = long;
   counts = λ i c. f .card i c .count;
   helds = λ i c. f .card i c .held;
   near = λ i c. (f .card i c .behind, f .card i c .near);
-  flights = λ t h n. let x = flight-letter ws t (f .flight t h) n in (x .one, x .present);
+  flights = λ t h n. let x = flight-packet ws t (f .flight t h) n in (x .one, x .present);
 }
 
 -- ---- words that agree
@@ -89,8 +90,8 @@ card-keeps us ws i card o f g =
 
 pub record Kept (us ws : List ℕ) : Type 0 where
   pub fit : Fit us
-  pub long : length us ≡ 4808
+  pub long : length us ≡ 1364
   pub sizes : SameSizes us ws
 
-pub unchanged : (ws : List ℕ) → length ws ≡ 4808 → Fit ws → Kept ws ws
+pub unchanged : (ws : List ℕ) → length ws ≡ 1364 → Fit ws → Kept ws ws
 unchanged ws l f = record { fit = f; long = l; sizes = record { cards = refl; tasks = refl; registers = refl } }

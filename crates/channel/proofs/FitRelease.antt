@@ -10,33 +10,33 @@ use lib.Dec.{eqb}
 use lib.ListN.{length, getD}
 use lib.Seq.{getD-set-same}
 use Rattle.lists.specs.Loops.{turns}
-use Rattle.names.specs.declared.Letter.{Letter}
-use Rattle.automaton.specs.State.{Tagged, released}
+use Rattle.names.specs.declared.Packet.{Packet}
+use Rattle.automaton.specs.State.{released}
 use Rattle.channel.specs.Layout.{headWord, countWord, heldWord, heldBlock, countOf, heldCountOf}
-use Rattle.names.specs.Letters.{letterAt, tagAt, stored}
-use Rattle.channel.specs.Letters.{fits}
+use Rattle.names.specs.Letters.{packetAt, tagAt, marked}
 use Rattle.channel.specs.Inbox.{pushed}
 use Rattle.channel.specs.TakeBroadcast.{Sweep, sweeps, swept, releasedWords}
-use Rattle.channel.specs.Sized.{heldFits}
+use Rattle.channel.specs.Sized.{packetFits, heldFits}
 use Rattle.channel.specs.Shows.{heldOf}
-use Rattle.names.proofs.Blocks.{word-other}
+use Rattle.names.proofs.Blocks.{marked-other}
 use Rattle.channel.proofs.InboxRing.{pushed-word}
-use Rattle.channel.proofs.Release.{heldFirst, fewer, Swept, y, at-k, joins-is, stays-is, space, sweeps-swept, end, swept-all, released-is, release-word}
+use Rattle.channel.proofs.Release.{heldFirst, fewer, Swept, y, packet-k, mark-k, joins-is, stays-is, space, sweeps-swept, end, swept-all, released-is, release-word}
 use Rattle.channel.specs.MemoryCalls.{SameSizes}
-use Rattle.channel.proofs.WellSizedParts.{fits-same}
-use Rattle.channel.proofs.FitQueues.{block-letter, block-tag, BoxFit, box-same, push-sizes, push-box, HeldFit, held-same, held-put}
+use Rattle.channel.proofs.LetterFits.{tagged-packet, tagged-small}
+use Rattle.channel.proofs.WellSizedParts.{packet-sizes}
+use Rattle.channel.proofs.FitQueues.{BoxFit, box-same, push-sizes, push-box, HeldFit, held-same, held-put}
 
 pub sizes-trans : (us vs ws : List ℕ) → SameSizes us vs → SameSizes vs ws → SameSizes us ws
 sizes-trans us vs ws p q = record { cards = p .cards ∙ q .cards; tasks = p .tasks ∙ q .tasks; registers = p .registers ∙ q .registers }
 
--- a held message's letter fits, and so does its tag
-pub record HeldLetter (ws : List ℕ) (l : Letter) (tag : ℕ) : Type 0 where
-  pub fit : fits ws l ≡ true
+-- a held message's packet fits, and so does its tag
+pub record HeldPacket (ws : List ℕ) (l : Packet) (tag : ℕ) : Type 0 where
+  pub fit : packetFits ws l ≡ true
   pub small : tag ≤ 65535
 
-pub held-letter : (ws : List ℕ) (i k : ℕ) → heldFits ws i k ≡ true → HeldLetter ws (letterAt ws (heldBlock i k)) (tagAt ws (heldBlock i k))
+pub held-packet : (ws : List ℕ) (i k : ℕ) → heldFits ws i k ≡ true → HeldPacket ws (packetAt ws (heldBlock i k)) (tagAt ws (heldBlock i k))
 unfolding heldFits
-held-letter ws i k e = record { fit = block-letter ws ws (heldBlock i k) e; small = block-tag ws ws (heldBlock i k) e }
+held-packet ws i k e = record { fit = tagged-packet ws (heldBlock i k) e; small = tagged-small ws (heldBlock i k) e }
 
 -- after the first k held messages
 pub record SweptFit (ws : List ℕ) (i : ℕ) (s : Sweep) : Type 0 where
@@ -47,15 +47,11 @@ pub record SweptFit (ws : List ℕ) (i : ℕ) (s : Sweep) : Type 0 where
 module _ (ws : List ℕ) (i n : ℕ) (card : i < 8) (k : ℕ) (s : Sweep) (h : k < 16)
     (room : countOf ws i + length (released n (heldFirst ws i (suc k))) ≤ 48) (v : Swept ws i n card k s)
     (f : SweptFit ws i s) (g : heldFits ws i k ≡ true) where
-  abbrev l : Letter
-  l = letterAt (s .words) (heldBlock i k)
+  abbrev l : Packet
+  l = packetAt (s .words) (heldBlock i k)
 
-  letter : HeldLetter ws l (y ws i n card k s h room v .mark)
-  letter =
-      let e = at-k ws i n card k s h room v in
-      let p : l ≡ letterAt ws (heldBlock i k) = ap (λ (z : Tagged Letter). z .msg) e in
-      let q : y ws i n card k s h room v .mark ≡ tagAt ws (heldBlock i k) = ap (λ (z : Tagged Letter). z .mark) e in
-      rw (p, q) (held-letter ws i k g)
+  letter : HeldPacket ws l (y ws i n card k s h room v .mark)
+  letter = rw (packet-k ws i n card k s h room v, mark-k ws i n card k s h room v) (held-packet ws i k g)
 
   module _ (e : eqb (y ws i n card k s h room v .mark) n ≡ true) where
     fit-joins : SweptFit ws i (swept i n k s)
@@ -66,7 +62,7 @@ module _ (ws : List ℕ) (i n : ℕ) (card : i < 8) (k : ℕ) (s : Sweep) (h : k
         let y : SameSizes us ws = sizes-trans us (s .words) ws z (f .sizes) in
         rw (joins-is ws i n card k s h room v e) (record {
           sizes = y;
-          box = push-box (s .words) i l (v .long) card r (fits-same us ws y l ∙ letter .fit) (f .box);
+          box = push-box (s .words) i l (v .long) card r (packet-sizes us ws y l ∙ letter .fit) (f .box);
           held = held-same us (s .words) i (s .kept) z (λ a p q. pushed-word (s .words) i l (v .long) card r a (omega arith) (λ b w. omega arith)) (f .held);
         })
 
@@ -74,10 +70,10 @@ module _ (ws : List ℕ) (i n : ℕ) (card : i < 8) (k : ℕ) (s : Sweep) (h : k
     fit-stays : SweptFit ws i (swept i n k s)
     fit-stays =
         let t : ℕ = y ws i n card k s h room v .mark in
-        let us : List ℕ = stored (s .words) (heldBlock i (s .kept)) l t in
+        let us : List ℕ = marked (s .words) (heldBlock i (s .kept)) l t in
         let few = v .few in
-        let o : (a : ℕ) → ((q : ℕ) → q < 8 → a ≢ heldBlock i (s .kept) * 8 + q)
-        → getD us a 0 ≡ getD (s .words) a 0 = word-other (s .words) (heldBlock i (s .kept)) l t in
+        let o : (a : ℕ) → ((q : ℕ) → q < 3 → a ≢ heldBlock i (s .kept) + q)
+        → getD us a 0 ≡ getD (s .words) a 0 = marked-other (s .words) (heldBlock i (s .kept)) l t in
         let z : SameSizes us (s .words) =
         record { cards = o 0 (λ q r. omega arith); tasks = o 1 (λ q r. omega arith); registers = o 2 (λ q r. omega arith) } in
         let y : SameSizes us ws = sizes-trans us (s .words) ws z (f .sizes) in
@@ -85,7 +81,7 @@ module _ (ws : List ℕ) (i n : ℕ) (card : i < 8) (k : ℕ) (s : Sweep) (h : k
           sizes = y;
           box = box-same us (s .words) i z (o (headWord i) (λ q r. omega arith)) (o (countWord i) (λ q r. omega arith)) (λ a p q. o a (λ b r. omega arith)) (f .box);
           held = held-put us (s .words) i (s .kept) l t z (omega arith) card (v .long) (λ a p q. o a (λ b r. omega arith)) (λ b r. refl)
-              (letter .small) (fits-same us ws y l ∙ letter .fit) (f .held);
+              (letter .small) (packet-sizes us ws y l ∙ letter .fit) (f .held);
         })
 
   fit-step : SweptFit ws i (swept i n k s)
@@ -95,7 +91,7 @@ module _ (ws : List ℕ) (i n : ℕ) (card : i < 8) (k : ℕ) (s : Sweep) (h : k
       go true e = fit-joins e
       go false e = fit-stays e
 
-sweeps-fit : (ws : List ℕ) (i n : ℕ) (card : i < 8) → length ws ≡ 4808 → BoxFit ws i → (k j : ℕ) → k + j ≤ 16
+sweeps-fit : (ws : List ℕ) (i n : ℕ) (card : i < 8) → length ws ≡ 1364 → BoxFit ws i → (k j : ℕ) → k + j ≤ 16
     → countOf ws i + length (released n (heldFirst ws i (k + j))) ≤ 48 → HeldFit ws i (k + j) → SweptFit ws i (sweeps i n k ws)
 unfolding sweeps turns
 sweeps-fit ws i n card long b zero j h room g =
@@ -107,7 +103,7 @@ sweeps-fit ws i n card long b (suc k) j h room g =
     (sweeps-swept ws i n card long k (suc j) (omega arith) (rw e at room))
     (sweeps-fit ws i n card long b k (suc j) (omega arith) (rw e at room) (rw e at g)) (g k (omega arith))
 
-module _ (ws : List ℕ) (i n : ℕ) (card : i < 8) (long : length ws ≡ 4808) (few : heldCountOf ws i ≤ 16)
+module _ (ws : List ℕ) (i n : ℕ) (card : i < 8) (long : length ws ≡ 1364) (few : heldCountOf ws i ≤ 16)
     (room : countOf ws i + length (released n (heldOf ws i)) ≤ 48) (b : BoxFit ws i) (g : HeldFit ws i (heldCountOf ws i)) where
   swept-fit : SweptFit ws i (end ws i n card long few room)
   unfolding heldOf

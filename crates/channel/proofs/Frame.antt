@@ -32,19 +32,19 @@ module _ (us ws : List ℕ) (j : ℕ) (e : (a : ℕ) → takenWord j ≤ a → a
       rw (e (heldWord j) (omega arith) (omega arith))
       (held-cong us ws j (heldCountOf ws j) (λ a p q. e a (omega arith) (omega arith)))
 
-pub flight-words : (us ws : List ℕ) (t : ℕ) → ((a : ℕ) → flightBlock t * 8 ≤ a → a < flightBlock (t + 1) * 8 → getD us a 0 ≡ getD ws a 0)
+pub flight-words : (us ws : List ℕ) (t : ℕ) → ((a : ℕ) → flightBlock t ≤ a → a < flightBlock (t + 1) → getD us a 0 ≡ getD ws a 0)
     → flightOf us t ≡ flightOf ws t
 unfolding flightOf noFlight
-flight-words us ws t e = rw (e (flightBlock t * 8) (omega arith) (omega arith), tagged-cong us ws (flightBlock t) (λ k g. e _ (omega arith) (omega arith)))
+flight-words us ws t e = rw (tagged-cong us ws (flightBlock t) (λ k g. e (flightBlock t + k) (omega arith) (omega arith)), e (flightBlock t) (omega arith) (omega arith))
 
-pub sent-words : (us ws : List ℕ) (n : ℕ) → ((a : ℕ) → broadcastBlock n * 8 ≤ a → a < (broadcastBlock n + 1) * 8 → getD us a 0 ≡ getD ws a 0)
+pub sent-words : (us ws : List ℕ) (n : ℕ) → ((a : ℕ) → broadcastBlock n ≤ a → a < broadcastBlock n + 2 → getD us a 0 ≡ getD ws a 0)
     → letterAt us (broadcastBlock n) ≡ letterAt ws (broadcastBlock n)
 sent-words us ws n e = letter-cong us ws (broadcastBlock n) (λ k g. e _ (omega arith) (omega arith))
 
 -- ---- only card i's part changed
 
 pub record Outside (i : ℕ) (us ws : List ℕ) : Type 0 where
-  pub long : length us ≡ 4808
+  pub long : length us ≡ 1364
   pub low : (a : ℕ) → a < takenWord i → getD us a 0 ≡ getD ws a 0
   pub high : (a : ℕ) → takenWord (i + 1) ≤ a → getD us a 0 ≡ getD ws a 0
 

@@ -9,41 +9,41 @@ use borrow.Author.Tests.{lt-ltb}
 use lib.ListN.{length, getD, set, length-set}
 use lib.Seq.{getD-set-same, getD-set-other}
 use Rattle.lists.specs.Listings.{listing}
-use Rattle.names.specs.declared.Letter.{Letter}
+use Rattle.names.specs.declared.Packet.{Packet}
 use Rattle.channel.specs.Layout.{headWord, countWord, heldWord, heldBlock, headOf, countOf, heldCountOf}
-use Rattle.names.specs.Letters.{stored}
+use Rattle.names.specs.Letters.{letterOf, marked}
 use Rattle.channel.specs.TakeSingle.{heldMore}
 use Rattle.channel.specs.Shows.{taggedAt, inboxOf, heldOf}
-use Rattle.names.proofs.Blocks.{word-other, letter-same, mark-same, length-stored}
+use Rattle.names.proofs.Blocks.{marked-other, marked-letter, mark-same, length-marked}
 use Rattle.channel.proofs.InboxRing.{tagged-cong, held-cong, ring-cong}
 
-module _ (ws : List ℕ) (i : ℕ) (l : Letter) (tag : ℕ) (card : i < 8) (long : length ws ≡ 4808) (room : heldCountOf ws i < 16) where
+module _ (ws : List ℕ) (i : ℕ) (l : Packet) (tag : ℕ) (card : i < 8) (long : length ws ≡ 1364) (room : heldCountOf ws i < 16) where
   abbrev pub place : ℕ
   place = heldBlock i (heldCountOf ws i)
 
   abbrev pub put : List ℕ
-  put = stored ws place l tag
+  put = marked ws place l tag
 
   pub more-is : heldMore ws i l tag ≡ set put (heldWord i) (heldCountOf ws i + 1)
   unfolding heldMore
   more-is = rw (lt-ltb (heldCountOf ws i) 16 room)
 
-  pub more-word : (a : ℕ) → a ≢ heldWord i → ((k : ℕ) → k < 8 → a ≢ place * 8 + k) → getD (heldMore ws i l tag) a 0 ≡ getD ws a 0
-  more-word a n h = rw more-is (getD-set-other put (heldWord i) a (heldCountOf ws i + 1) 0 n ∙ word-other ws place l tag a h)
+  pub more-word : (a : ℕ) → a ≢ heldWord i → ((k : ℕ) → k < 3 → a ≢ place + k) → getD (heldMore ws i l tag) a 0 ≡ getD ws a 0
+  more-word a n h = rw more-is (getD-set-other put (heldWord i) a (heldCountOf ws i + 1) 0 n ∙ marked-other ws place l tag a h)
 
-  pub more-block : (k : ℕ) → k < 8 → getD (heldMore ws i l tag) (place * 8 + k) 0 ≡ getD put (place * 8 + k) 0
-  more-block k g = rw more-is (getD-set-other put (heldWord i) (place * 8 + k) (heldCountOf ws i + 1) 0 (omega arith))
+  pub more-block : (k : ℕ) → k < 3 → getD (heldMore ws i l tag) (place + k) 0 ≡ getD put (place + k) 0
+  more-block k g = rw more-is (getD-set-other put (heldWord i) (place + k) (heldCountOf ws i + 1) 0 (omega arith))
 
-  pub more-long : length (heldMore ws i l tag) ≡ 4808
-  more-long = rw more-is (length-set put (heldWord i) (heldCountOf ws i + 1) ∙ length-stored ws place l tag ∙ long)
+  pub more-long : length (heldMore ws i l tag) ≡ 1364
+  more-long = rw more-is (length-set put (heldWord i) (heldCountOf ws i + 1) ∙ length-marked ws place l tag ∙ long)
 
   pub more-count : heldCountOf (heldMore ws i l tag) i ≡ heldCountOf ws i + 1
-  more-count = rw more-is (getD-set-same put (heldWord i) (heldCountOf ws i + 1) 0 (omega (arith, length-stored ws place l tag)))
+  more-count = rw more-is (getD-set-same put (heldWord i) (heldCountOf ws i + 1) 0 (omega (arith, length-marked ws place l tag)))
 
-  pub more-held : heldOf (heldMore ws i l tag) i ≡ heldOf ws i ++ (record { msg = l; mark = tag } ∷ [])
+  pub more-held : heldOf (heldMore ws i l tag) i ≡ heldOf ws i ++ (record { msg = letterOf l; mark = tag } ∷ [])
   unfolding heldOf listing
   more-held =
-      let p : taggedAt put place ≡ record { msg = l; mark = tag } = rw (letter-same ws place l tag (omega arith), mark-same ws place l tag (omega arith)) in
+      let p : taggedAt put place ≡ record { msg = letterOf l; mark = tag } = rw (marked-letter ws place l tag (omega arith), mark-same ws place l tag (omega arith)) in
       rw (more-count, add-one (heldCountOf ws i))
       (ap₂ (λ x y. x ++ (y ∷ []))
       (held-cong (heldMore ws i l tag) ws i (heldCountOf ws i) (λ a u q. more-word a (omega arith) (λ k g. omega arith)))

@@ -9,7 +9,7 @@ use borrow.Author.Tests.{leb-true, ltb-false, leb-false}
 use lib.Dec.{ltb, leb}
 use lib.ListN.{getD}
 use Rattle.lists.specs.Tests.{clash, false-of, and-fst, and-snd}
-use Rattle.lists.specs.Conjunctions.{and-four, and-five, and-fails}
+use Rattle.lists.specs.Conjunctions.{and-three, and-five, and-fails}
 use Rattle.lists.specs.Every.{each, each-failing}
 use Rattle.names.specs.declared.Body.{Body}
 use Rattle.names.specs.declared.Body.the-variants.{ReadDo, UpdateDo, ReadReply, UpdateReply}
@@ -21,10 +21,10 @@ use Rattle.channel.specs.Layout.{cardsWord, tasksWord, registersWord, ca
 use Rattle.channel.specs.Letters.{addressed, fits}
 use Rattle.channel.specs.Begin.{sizesFit}
 use Rattle.channel.specs.TakeSingle.{noFlight}
-use Rattle.channel.specs.Sized.{blockFits, inboxFits, heldFits, flightFits, broadcastFits, countsFit, cardFits, recentFits, headFits, wellSized}
-use Rattle.channel.specs.IllSized.{PastLimit, absent-task, absent-register, no-function, unknown-function, absent-sender, absent-destination, no-destination, PastBlock, past-field, past-tag, no-kind, unknown-kind, IllChannel, no-card, cards, no-register, registers, no-task, tasks, broadcasts, inbox, held, inbox-message, held-message, flight-message, broadcast-message, above, below, inbox-head, flight-destination, broadcast-destination, ChannelExact}
-use Rattle.channel.proofs.WellSizedParts.{Fit, fit-of}
-use Rattle.channel.proofs.FitQueues.{fits-is}
+use Rattle.channel.specs.Sized.{packetFits, blockFits, taggedFits, inboxFits, heldFits, flightFits, broadcastFits, countsFit, cardFits, recentFits, headFits, wellSized}
+use Rattle.channel.specs.IllSized.{PastLimit, absent-task, absent-register, no-function, unknown-function, absent-destination, no-destination, PastBlock, past-field, no-kind, unknown-kind, IllChannel, no-card, cards, no-register, registers, no-task, tasks, broadcasts, inbox, held, inbox-message, held-message, flight-message, broadcast-message, held-tag, flight-tag, above, below, inbox-head, flight-destination, broadcast-destination, ChannelExact}
+use Rattle.channel.proofs.WellSizedParts.{Fit, recent-number, fit-of}
+use Rattle.channel.proofs.LetterFits.{fits-is, tagged-packet, tagged-small}
 
 -- a number that is not at least 1
 none : (n : ℕ) → leb 1 n ≡ false → n ≡ 0
@@ -42,9 +42,6 @@ module _ (cs : List ℕ) (l : Letter) where
   abbrev c : Bool
   c = known (l .message .body)
 
-  abbrev d : Bool
-  d = ltb (l .from .0) (cardsOf cs)
-
   body-fails : (b : Body) → l .message .body ≡ b → known b ≡ false → PastLimit cs l
   unfolding known
   body-fails ReadDo q e = absurd (clash refl e)
@@ -59,13 +56,11 @@ module _ (cs : List ℕ) (l : Letter) where
   fits-fails : fits cs l ≡ false → PastLimit cs l
   unfolding fits addressed
   fits-fails e =
-      and-fails (a && b && c && d) (leb 1 (l .to) && ltb (l .to) (2 ^ cardsOf cs)) e
-      (λ e. and-fails (a && b && c) d e
+      and-fails (a && b && c) (leb 1 (l .to) && ltb (l .to) (2 ^ cardsOf cs)) e
       (λ e. and-fails (a && b) c e
       (λ e. and-fails a b e
       (λ h. absent-task (ltb-false _ _ h)) (λ h. absent-register (ltb-false _ _ h)))
       (λ h. body-fails (l .message .body) refl h))
-      (λ h. absent-sender (ltb-false _ _ h)))
       (λ e. and-fails (leb 1 (l .to)) (ltb (l .to) (2 ^ cardsOf cs)) e (λ h. no-destination (none _ h)) (λ h. absent-destination (ltb-false _ _ h)))
 
   fits-none : fits cs l ≡ true → PastLimit cs l → ⊥
@@ -74,28 +69,23 @@ module _ (cs : List ℕ) (l : Letter) where
   fits-none e (absent-register h) = omega (arith, fits-is cs l e .register)
   fits-none e (no-function v q) = clash (rw q at (fits-is cs l e .body)) (functions-unknown 0 .1 (inl refl))
   fits-none e (unknown-function f v q h) = clash (rw q at (fits-is cs l e .body)) (functions-unknown f .1 (inr h))
-  fits-none e (absent-sender h) = omega (arith, fits-is cs l e .sender)
   fits-none e (absent-destination h) = omega (arith, fits-is cs l e .present)
   fits-none e (no-destination h) = omega (arith, fits-is cs l e .someone)
 
 module _ (cs ws : List ℕ) (b : ℕ) where
   pub block-fails : blockFits cs ws b ≡ false → PastBlock cs ws b
-  unfolding blockFits
+  unfolding packetFits
   block-fails e =
-      and-fails (leb 1 (kindAt ws b) && leb (kindAt ws b) 4 && leb (tagAt ws b) 65535) (fits cs (letterAt ws b)) e
-      (λ e. and-fails (leb 1 (kindAt ws b) && leb (kindAt ws b) 4) (leb (tagAt ws b) 65535) e
+      and-fails (leb 1 (kindAt ws b) && leb (kindAt ws b) 4) (fits cs (letterAt ws b)) e
       (λ e. and-fails (leb 1 (kindAt ws b)) (leb (kindAt ws b) 4) e (λ h. no-kind (none _ h)) (λ h. unknown-kind (leb-false _ _ h)))
-      (λ h. past-tag (leb-false _ _ h)))
       (λ h. past-field (fits-fails cs (letterAt ws b) h))
 
   block-none : blockFits cs ws b ≡ true → PastBlock cs ws b → ⊥
-  unfolding blockFits
-  block-none e p = none-of (and-four (leb 1 (kindAt ws b)) (leb (kindAt ws b) 4) (leb (tagAt ws b) 65535) (fits cs (letterAt ws b)) e) p
+  unfolding packetFits
+  block-none e p = none-of (and-three (leb 1 (kindAt ws b)) (leb (kindAt ws b) 4) (fits cs (letterAt ws b)) e) p
     where
-      none-of : (leb 1 (kindAt ws b) ≡ true) × (leb (kindAt ws b) 4 ≡ true) × (leb (tagAt ws b) 65535 ≡ true) × (fits cs (letterAt ws b) ≡ true)
-          → PastBlock cs ws b → ⊥
-      none-of u (past-field p) = fits-none cs (letterAt ws b) (u .3) p
-      none-of u (past-tag h) = let m = leb-true (tagAt ws b) 65535 (u .2) in omega arith
+      none-of : (leb 1 (kindAt ws b) ≡ true) × (leb (kindAt ws b) 4 ≡ true) × (fits cs (letterAt ws b) ≡ true) → PastBlock cs ws b → ⊥
+      none-of u (past-field p) = fits-none cs (letterAt ws b) (u .2) p
       none-of u (no-kind h) = let m = leb-true 1 (kindAt ws b) (u .0) in omega arith
       none-of u (unknown-kind h) = let m = leb-true (kindAt ws b) 4 (u .1) in omega arith
 
@@ -162,6 +152,12 @@ module _ (ws : List ℕ) where
       (λ h. inbox i c (leb-false _ _ h)))
       (λ h. held i c (leb-false _ _ h))
 
+  -- of a message with a tag
+  tagged-fails : (b : ℕ) → taggedFits ws b ≡ false → (PastBlock ws ws b → IllChannel ws) → (65535 < tagAt ws b → IllChannel ws) → IllChannel ws
+  unfolding taggedFits
+  tagged-fails b e p q =
+      and-fails (blockFits ws ws b) (leb (tagAt ws b) 65535) e (λ h. p (block-fails ws ws b h)) (λ h. q (leb-false _ _ h))
+
   card-fails : (i : ℕ) → i < cardsOf ws → cardFits ws i ≡ false → IllChannel ws
   unfolding cardFits inboxFits heldFits
   card-fails i c e =
@@ -170,17 +166,18 @@ module _ (ws : List ℕ) where
       and-fails (countsFit ws i && each n (inboxFits ws i)) (each m (heldFits ws i)) e
       (λ e. and-fails (countsFit ws i) (each n (inboxFits ws i)) e (counts-fail i c)
       (λ h. let x = each-failing n (inboxFits ws i) h in inbox-message i (x .0) c (omega (arith, x .1)) (block-fails ws ws (placeOf ws i (x .0)) (x .2))))
-      (λ h. let x = each-failing m (heldFits ws i) h in held-message i (x .0) c (omega (arith, x .1)) (block-fails ws ws (heldBlock i (x .0)) (x .2)))
+      (λ h. let x = each-failing m (heldFits ws i) h in
+      tagged-fails (heldBlock i (x .0)) (x .2) (held-message i (x .0) c (omega (arith, x .1))) (held-tag i (x .0) c (omega (arith, x .1))))
 
   flight-fails : (t : ℕ) → t < tasksOf ws → flightFits ws t ≡ false → IllChannel ws
   unfolding flightFits
   flight-fails t h e = go (noFlight ws t) refl e
     where
-      go : (b : Bool) → noFlight ws t ≡ b → (b || (blockFits ws ws (flightBlock t) && single (letterAt ws (flightBlock t) .to))) ≡ false → IllChannel ws
+      go : (b : Bool) → noFlight ws t ≡ b → (b || (taggedFits ws (flightBlock t) && single (letterAt ws (flightBlock t) .to))) ≡ false → IllChannel ws
       go true q e = absurd (clash refl e)
       go false q e =
-          and-fails (blockFits ws ws (flightBlock t)) (single (letterAt ws (flightBlock t) .to)) e
-          (λ p. flight-message t h q (block-fails ws ws (flightBlock t) p)) (flight-destination t h q)
+          and-fails (taggedFits ws (flightBlock t)) (single (letterAt ws (flightBlock t) .to)) e
+          (λ p. tagged-fails (flightBlock t) p (flight-message t h q) (flight-tag t h q)) (flight-destination t h q)
 
   recent-fails : (k : ℕ) → k < madeOf ws → k < 64 → broadcastFits ws (madeOf ws - k) ≡ false → IllChannel ws
   unfolding broadcastFits
@@ -190,7 +187,7 @@ module _ (ws : List ℕ) where
       (λ p. broadcast-message k m h (block-fails ws ws b p)) (broadcast-destination k m h)
 
   ill-found : wellSized ws ≡ false → IllChannel ws
-  unfolding wellSized recentFits
+  unfolding wellSized recentFits broadcastFits
   ill-found e =
       let a : Bool = each (cardsOf ws) (cardFits ws) in
       let b : Bool = each (tasksOf ws) (flightFits ws) in
@@ -200,17 +197,19 @@ module _ (ws : List ℕ) where
       (λ e. and-fails (headFits ws) a e head-fails
       (λ h. let x = each-failing (cardsOf ws) (cardFits ws) h in card-fails (x .0) (x .1) (x .2)))
       (λ h. let x = each-failing (tasksOf ws) (flightFits ws) h in flight-fails (x .0) (x .1) (x .2)))
-      (λ h. let x = each-failing (min (madeOf ws) 64) (recentFits ws) h in recent-fails (x .0) (omega (arith, x .1)) (omega (arith, x .1)) (x .2))
+      (λ h. let x = each-failing (min (madeOf ws) 64) (recentFits ws) h in
+      let y = recent-number ws (x .0) (x .1) in
+      recent-fails (y .0) (y .1) (y .2) (rw (y .3) at (x .2)))
 
   flight-in : (t : ℕ) → noFlight ws t ≡ false → flightFits ws t ≡ true
-      → (blockFits ws ws (flightBlock t) ≡ true) × (single (letterAt ws (flightBlock t) .to) ≡ true)
+      → (taggedFits ws (flightBlock t) ≡ true) × (single (letterAt ws (flightBlock t) .to) ≡ true)
   unfolding flightFits
   flight-in t q e = go (noFlight ws t) q e
     where
-      go : (b : Bool) → b ≡ false → (b || (blockFits ws ws (flightBlock t) && single (letterAt ws (flightBlock t) .to))) ≡ true
-          → (blockFits ws ws (flightBlock t) ≡ true) × (single (letterAt ws (flightBlock t) .to) ≡ true)
+      go : (b : Bool) → b ≡ false → (b || (taggedFits ws (flightBlock t) && single (letterAt ws (flightBlock t) .to))) ≡ true
+          → (taggedFits ws (flightBlock t) ≡ true) × (single (letterAt ws (flightBlock t) .to) ≡ true)
       go true z f = absurd (clash refl z)
-      go false z f = (and-fst _ (single (letterAt ws (flightBlock t) .to)) f, and-snd (blockFits ws ws (flightBlock t)) _ f)
+      go false z f = (and-fst _ (single (letterAt ws (flightBlock t) .to)) f, and-snd (taggedFits ws (flightBlock t)) _ f)
 
   ill-none : Fit ws → IllChannel ws → ⊥
   unfolding inboxFits heldFits broadcastFits
@@ -224,10 +223,12 @@ module _ (ws : List ℕ) where
   ill-none f (inbox i c h) = omega (arith, f .card i c .count)
   ill-none f (held i c h) = omega (arith, f .card i c .held)
   ill-none f (inbox-message i k c g p) = block-none ws ws (placeOf ws i k) (f .card i c .inbox k g) p
-  ill-none f (held-message i k c g p) = block-none ws ws (heldBlock i k) (f .card i c .helds k g) p
-  ill-none f (flight-message t c q p) = block-none ws ws (flightBlock t) (flight-in t q (f .flight t c) .0) p
+  ill-none f (held-message i k c g p) = block-none ws ws (heldBlock i k) (tagged-packet ws (heldBlock i k) (f .card i c .helds k g)) p
+  ill-none f (flight-message t c q p) = block-none ws ws (flightBlock t) (tagged-packet ws (flightBlock t) (flight-in t q (f .flight t c) .0)) p
   ill-none f (broadcast-message k m h p) =
       block-none ws ws (broadcastBlock (madeOf ws - k)) (and-fst _ (several (letterAt ws (broadcastBlock (madeOf ws - k)) .to)) (f .recent k m h)) p
+  ill-none f (held-tag i k c g h) = omega (arith, tagged-small ws (heldBlock i k) (f .card i c .helds k g))
+  ill-none f (flight-tag t c q h) = omega (arith, tagged-small ws (flightBlock t) (flight-in t q (f .flight t c) .0))
   ill-none f (above i c h) = omega (arith, f .card i c .behind)
   ill-none f (below i c h) = omega (arith, f .card i c .near)
   ill-none f (inbox-head i c h) = omega (arith, f .card i c .head)

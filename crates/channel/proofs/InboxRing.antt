@@ -7,41 +7,41 @@ use native.Mathlib.Numerals.{add-one}
 use native.Mathlib.Omega.{arith}
 use lib.ListN.{length, getD}
 use Rattle.lists.specs.Listings.{listing, listing-snoc, listing-cons, listing-cong}
-use Rattle.names.specs.declared.Letter.{Letter}
-use Rattle.names.specs.Letters.{letterAt, stored}
+use Rattle.names.specs.declared.Packet.{Packet}
+use Rattle.names.specs.Letters.{letterOf, letterAt, stored}
 use Rattle.channel.specs.Layout.{headWord, countWord, inboxBlock, heldBlock, headOf, countOf, placeOf}
 use Rattle.channel.specs.Inbox.{pushed, popped}
 use Rattle.channel.specs.Shows.{taggedAt, inboxOf}
-use Rattle.names.proofs.Blocks.{letter-cong}
+use Rattle.names.proofs.Blocks.{packet-cong, letter-cong}
 use Rattle.names.proofs.Rings.{joined-long, joined-word, joined-count, joined-block, joined-last, gone-long, gone-word, gone-count, gone-head}
 
 -- ---- words that agree where they are read
 
-pub tagged-cong : (us ws : List ℕ) (b : ℕ) → ((k : ℕ) → k < 8 → getD us (b * 8 + k) 0 ≡ getD ws (b * 8 + k) 0) → taggedAt us b ≡ taggedAt ws b
-tagged-cong us ws b h = rw (letter-cong us ws b h, h 7 (omega arith))
+pub tagged-cong : (us ws : List ℕ) (b : ℕ) → ((k : ℕ) → k < 3 → getD us (b + k) 0 ≡ getD ws (b + k) 0) → taggedAt us b ≡ taggedAt ws b
+tagged-cong us ws b h = rw (packet-cong us ws b (λ k g. h k (omega arith)), h 2 (omega arith))
 
 -- the words of n messages held for card i agree
-pub held-cong : (us ws : List ℕ) (i n : ℕ) → ((a : ℕ) → heldBlock i 0 * 8 ≤ a → a < heldBlock i n * 8 → getD us a 0 ≡ getD ws a 0)
+pub held-cong : (us ws : List ℕ) (i n : ℕ) → ((a : ℕ) → heldBlock i 0 ≤ a → a < heldBlock i n → getD us a 0 ≡ getD ws a 0)
     → listing (λ k. taggedAt us (heldBlock i k)) n ≡ listing (λ k. taggedAt ws (heldBlock i k)) n
 held-cong us ws i n e = listing-cong _ _ n (λ k g. tagged-cong us ws (heldBlock i k) (λ a h. e _ (omega arith) (omega arith)))
 
 -- the words of card i's ring agree
-pub ring-cong : (us ws : List ℕ) (i h n : ℕ) → ((a : ℕ) → inboxBlock i 0 * 8 ≤ a → a < inboxBlock i 48 * 8 → getD us a 0 ≡ getD ws a 0)
+pub ring-cong : (us ws : List ℕ) (i h n : ℕ) → ((a : ℕ) → inboxBlock i 0 ≤ a → a < inboxBlock i 48 → getD us a 0 ≡ getD ws a 0)
     → listing (λ k. letterAt us (inboxBlock i ((h + k) % 48))) n ≡ listing (λ k. letterAt ws (inboxBlock i ((h + k) % 48))) n
 ring-cong us ws i h n e = listing-cong _ _ n (λ k g. letter-cong us ws _ (λ a r. e _ (omega arith) (omega arith)))
 
 -- ---- push
 
-module _ (ws : List ℕ) (i : ℕ) (l : Letter) (long : length ws ≡ 4808) (card : i < 8) (room : countOf ws i < 48) where
+module _ (ws : List ℕ) (i : ℕ) (l : Packet) (long : length ws ≡ 1364) (card : i < 8) (room : countOf ws i < 48) where
   abbrev pub last : ℕ
   last = placeOf ws i (countOf ws i)
 
-  pub pushed-long : length (pushed ws i l) ≡ 4808
+  pub pushed-long : length (pushed ws i l) ≡ 1364
   unfolding pushed
   pushed-long = joined-long ws (countWord i) last 48 l room ∙ long
 
   -- the words that a push leaves
-  pub pushed-word : (a : ℕ) → a ≢ countWord i → ((k : ℕ) → k < 8 → a ≢ last * 8 + k) → getD (pushed ws i l) a 0 ≡ getD ws a 0
+  pub pushed-word : (a : ℕ) → a ≢ countWord i → ((k : ℕ) → k < 2 → a ≢ last + k) → getD (pushed ws i l) a 0 ≡ getD ws a 0
   unfolding pushed
   pushed-word = joined-word ws (countWord i) last 48 l room
 
@@ -52,21 +52,21 @@ module _ (ws : List ℕ) (i : ℕ) (l : Letter) (long : length ws ≡ 4808) (car
   pub pushed-head : headOf (pushed ws i l) i ≡ headOf ws i
   pushed-head = pushed-word (headWord i) (omega arith) (λ k g. omega arith)
 
-  pub pushed-block : (k : ℕ) → k < 8 → getD (pushed ws i l) (last * 8 + k) 0 ≡ getD (stored ws last l 0) (last * 8 + k) 0
+  pub pushed-block : (k : ℕ) → k < 2 → getD (pushed ws i l) (last + k) 0 ≡ getD (stored ws last l) (last + k) 0
   unfolding pushed
   pushed-block k g = joined-block ws (countWord i) last 48 l room k (omega arith)
 
-  pub pushed-last : letterAt (pushed ws i l) last ≡ l
+  pub pushed-last : letterAt (pushed ws i l) last ≡ letterOf l
   unfolding pushed
   pushed-last = joined-last ws (countWord i) last 48 l room (λ k g. omega arith) (omega arith)
 
   -- another block of the inbox
   pushed-apart : (k : ℕ) → k < countOf ws i
       → letterAt (pushed ws i l) (placeOf ws i k) ≡ letterAt ws (placeOf ws i k)
-  pushed-apart k h = letter-cong _ ws (placeOf ws i k) (λ m g. pushed-word _ (omega arith) (λ q r. omega arith))
+  pushed-apart k h = letter-cong (pushed ws i l) ws (placeOf ws i k) (λ m g. pushed-word (placeOf ws i k + m) (omega arith) (λ q r. omega arith))
 
   -- a push appends
-  pub push-appends : inboxOf (pushed ws i l) i ≡ inboxOf ws i ++ (l ∷ [])
+  pub push-appends : inboxOf (pushed ws i l) i ≡ inboxOf ws i ++ (letterOf l ∷ [])
   unfolding inboxOf
   push-appends =
       rw (pushed-head, pushed-count, add-one (countOf ws i), listing-snoc)
@@ -78,8 +78,8 @@ module _ (ws : List ℕ) (i : ℕ) (l : Letter) (long : length ws ≡ 4808) (car
 
 -- ---- pop
 
-module _ (ws : List ℕ) (i : ℕ) (long : length ws ≡ 4808) (card : i < 8) (n : ℕ) (some-in : countOf ws i ≡ suc n) where
-  pub popped-long : length (popped ws i) ≡ 4808
+module _ (ws : List ℕ) (i : ℕ) (long : length ws ≡ 1364) (card : i < 8) (n : ℕ) (some-in : countOf ws i ≡ suc n) where
+  pub popped-long : length (popped ws i) ≡ 1364
   unfolding popped
   popped-long = gone-long ws (headWord i) (countWord i) 48 n some-in ∙ long
 

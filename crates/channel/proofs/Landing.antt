@@ -12,10 +12,12 @@ use lib.ListN.{length, getD, set, length-set}
 use lib.Seq.{getD-set-same, getD-set-other}
 use Rattle.lists.specs.Tests.{eqb-refl, eqb-not}
 use Rattle.names.specs.declared.Letter.{Letter}
+use Rattle.names.specs.declared.Packet.{Packet}
+use Rattle.names.specs.Letters.{kindIn}
 use Rattle.automaton.specs.State.{Tagged, ChannelState, landing}
 use Rattle.channel.specs.Layout.{takenWord, countWord, heldWord, flightBlock, cardsOf, tasksOf, madeOf, countOf, heldCountOf}
 use Rattle.channel.specs.Inbox.{pushed}
-use Rattle.channel.specs.TakeSingle.{noFlight, flightTo, heldMore, landed}
+use Rattle.channel.specs.TakeSingle.{noFlight, flightPacket, flightTo, heldMore, landed}
 use Rattle.channel.specs.Shows.{letterMail, taggedAt, heldOf, flightOf, Shows}
 use Rattle.channel.proofs.InboxRing.{pushed-long, pushed-word, push-appends, push-held}
 use Rattle.channel.proofs.SizedFacts.{Sized, cards-most, tasks-most, cards-words, tasks-words}
@@ -26,10 +28,10 @@ use Rattle.channel.proofs.Frame.{Outside, card-shows, inbox-words, held
 
 module _ (ws : List ℕ) (t : ℕ) (small : t < 16) where
   abbrev pub vacated : List ℕ
-  vacated = set ws (flightBlock t * 8) 0
+  vacated = set ws (flightBlock t) 0
 
-  pub vacated-word : (a : ℕ) → a ≢ flightBlock t * 8 → getD vacated a 0 ≡ getD ws a 0
-  vacated-word a h = getD-set-other ws (flightBlock t * 8) a 0 0 h
+  pub vacated-word : (a : ℕ) → a ≢ flightBlock t → getD vacated a 0 ≡ getD ws a 0
+  vacated-word a h = getD-set-other ws (flightBlock t) a 0 0 h
 
   pub vacated-cards : cardsOf vacated ≡ cardsOf ws
   vacated-cards = cards-words vacated ws (vacated-word 0 (omega arith))
@@ -38,9 +40,9 @@ module _ (ws : List ℕ) (t : ℕ) (small : t < 16) where
   vacated-tasks = tasks-words vacated ws (vacated-word 1 (omega arith))
 
   -- the slot itself, and another task's
-  pub vacated-slot : flightBlock t * 8 < length ws → noFlight vacated t ≡ true
-  unfolding noFlight
-  vacated-slot h = rw (getD-set-same ws (flightBlock t * 8) 0 0 h)
+  pub vacated-slot : flightBlock t < length ws → noFlight vacated t ≡ true
+  unfolding noFlight kindIn
+  vacated-slot h = rw (getD-set-same ws (flightBlock t) 0 0 h)
 
   pub vacated-apart : (d : ℕ) → d ≢ t → flightOf vacated d ≡ flightOf ws d
   vacated-apart d n = flight-words vacated ws d (λ a p q. vacated-word a (omega arith))
@@ -53,7 +55,7 @@ module _ (ws : List ℕ) (w : ChannelState Letter) (z : Sized ws) (v : Shows ws 
   abbrev pub us : List ℕ
   us = vacated ws t t16
 
-  pub same : (a : ℕ) → a ≢ flightBlock t * 8 → getD us a 0 ≡ getD ws a 0
+  pub same : (a : ℕ) → a ≢ flightBlock t → getD us a 0 ≡ getD ws a 0
   same = vacated-word ws t t16
 
   same-card : (i a : ℕ) → i < cardsOf us → takenWord i ≤ a → a < takenWord (i + 1) → getD us a 0 ≡ getD ws a 0
@@ -93,6 +95,9 @@ module _ (ws : List ℕ) (w : ChannelState Letter) (z : Sized ws) (v : Shows ws 
   abbrev pub x : Tagged Letter
   x = taggedAt ws (flightBlock t)
 
+  abbrev pub packet : Packet
+  packet = flightPacket ws t
+
   abbrev pub i : ℕ
   i = flightTo ws t
 
@@ -103,54 +108,54 @@ module _ (ws : List ℕ) (w : ChannelState Letter) (z : Sized ws) (v : Shows ws 
     here : i < cardsOf us
     here = rw (vacated-cards ws t t16) card
 
-    long : length us ≡ 4808
-    long = length-set ws (flightBlock t * 8) 0 ∙ z .long
+    long : length us ≡ 1364
+    long = length-set ws (flightBlock t) 0 ∙ z .long
 
     pub join-room : countOf ws i < 48 → countOf us i < 48
-    join-room r = rw (same (countWord i) (omega arith)) r
+    join-room r = rw (same (countWord i) (omega (arith, c8))) r
 
     pub wait-room : heldCountOf ws i < 16 → heldCountOf us i < 16
-    wait-room r = rw (same (heldWord i) (omega arith)) r
+    wait-room r = rw (same (heldWord i) (omega (arith, c8))) r
 
-    pub join-outside : countOf ws i < 48 → Outside i (pushed us i (x .msg)) us
+    pub join-outside : countOf ws i < 48 → Outside i (pushed us i packet) us
     join-outside room =
-        let p = pushed-word us i (x .msg) long c8 (join-room room) in
-        record { long = pushed-long us i (x .msg) long c8 (join-room room); low = λ a h. p a (omega arith) (λ k g. omega arith); high = λ a h. p a (omega arith) (λ k g. omega arith) }
+        let p = pushed-word us i packet long c8 (join-room room) in
+        record { long = pushed-long us i packet long c8 (join-room room); low = λ a h. p a (omega arith) (λ k g. omega arith); high = λ a h. p a (omega arith) (λ k g. omega arith) }
 
-    pub wait-outside : heldCountOf ws i < 16 → Outside i (heldMore us i (x .msg) (x .mark)) us
+    pub wait-outside : heldCountOf ws i < 16 → Outside i (heldMore us i packet (x .mark)) us
     wait-outside room =
         let r = wait-room room in
-        let p = more-word us i (x .msg) (x .mark) c8 long r in
-        record { long = more-long us i (x .msg) (x .mark) c8 long (wait-room room); low = λ a h. p a (omega arith) (λ k g. omega arith); high = λ a h. p a (omega arith) (λ k g. omega arith) }
+        let p = more-word us i packet (x .mark) c8 long r in
+        record { long = more-long us i packet (x .mark) c8 long (wait-room room); low = λ a h. p a (omega arith) (λ k g. omega arith); high = λ a h. p a (omega arith) (λ k g. omega arith) }
 
-    joins : countOf ws i < 48 → Shows (pushed us i (x .msg)) (landing letterMail true w t x)
+    joins : countOf ws i < 48 → Shows (pushed us i packet) (landing letterMail true w t x)
     unfolding heldOf
     joins room =
         let r = join-room room in
-        let p = pushed-word us i (x .msg) long c8 r in
+        let p = pushed-word us i packet long c8 r in
         let s = vacated-shows in
         let m = helds i here in
-        card-shows us (pushed us i (x .msg)) emptied (landing letterMail true w t x) i here helds s (join-outside room)
+        card-shows us (pushed us i packet) emptied (landing letterMail true w t x) i here helds s (join-outside room)
         refl (λ c. refl)
         (λ j q. (refl, refl, rw (eqb-not q)))
         (s .taken= i here ∙ sym (p (takenWord i) (omega arith) (λ k g. omega arith)))
-        (s .held= i here ∙ sym (rw (p (heldWord i) (omega arith) (λ k g. omega arith)) (push-held us i (x .msg) long c8 r (heldCountOf us i) m)))
-        (rw (eqb-refl i, s .inbox= i here) (sym (push-appends us i (x .msg) long c8 r)))
+        (s .held= i here ∙ sym (rw (p (heldWord i) (omega arith) (λ k g. omega arith)) (push-held us i packet long c8 r (heldCountOf us i) m)))
+        (rw (eqb-refl i, s .inbox= i here) (sym (push-appends us i packet long c8 r)))
 
-    waits : heldCountOf ws i < 16 → Shows (heldMore us i (x .msg) (x .mark)) (landing letterMail false w t x)
+    waits : heldCountOf ws i < 16 → Shows (heldMore us i packet (x .mark)) (landing letterMail false w t x)
     waits room =
         let r = wait-room room in
-        let p = more-word us i (x .msg) (x .mark) c8 long r in
+        let p = more-word us i packet (x .mark) c8 long r in
         let s = vacated-shows in
-        card-shows us (heldMore us i (x .msg) (x .mark)) emptied (landing letterMail false w t x) i here helds s (wait-outside room)
+        card-shows us (heldMore us i packet (x .mark)) emptied (landing letterMail false w t x) i here helds s (wait-outside room)
         refl (λ c. refl)
         (λ j q. (refl, rw (eqb-not q), refl))
         (s .taken= i here ∙ sym (p (takenWord i) (omega arith) (λ k g. omega arith)))
-        (rw (eqb-refl i, s .held= i here) (sym (more-held us i (x .msg) (x .mark) c8 long r)))
-        (s .inbox= i here ∙ sym (more-inbox us i (x .msg) (x .mark) c8 long r))
+        (rw (eqb-refl i, s .held= i here) (sym (more-held us i packet (x .mark) c8 long r)))
+        (s .inbox= i here ∙ sym (more-inbox us i packet (x .mark) c8 long r))
 
     pub land-shows : (b : Bool) → cond b (countOf ws i) 0 < 48 → cond b 0 (heldCountOf ws i) < 16
-        → Shows (landed ws t i (x .msg) (x .mark) b) (landing letterMail b w t x)
+        → Shows (landed ws t i packet (x .mark) b) (landing letterMail b w t x)
     unfolding landed
     land-shows true p q = joins p
     land-shows false p q = waits q

@@ -1,5 +1,6 @@
 -- What each operation does to the memory is what it does to the idealised state
 pub mod InboxRing
+pub mod LetterFits
 pub mod SizedFacts
 pub mod Frame
 pub mod Release

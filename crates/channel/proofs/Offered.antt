@@ -14,7 +14,7 @@ use Rattle.lists.specs.Listings.{listing, listing-zero, listing-cons, listing-l
 use Rattle.lists.specs.Places.{nth}
 use Rattle.names.specs.declared.Card.{Card}
 use Rattle.names.specs.declared.Letter.{Letter}
-use Rattle.names.specs.Letters.{letterAt}
+use Rattle.names.specs.Letters.{packetAt, letterAt}
 use Rattle.automaton.specs.State.{ChannelState}
 use Rattle.channel.specs.Layout.{broadcastBlock, cardsOf, registersOf, madeOf, takenOf, countOf, placeOf}
 use Rattle.channel.specs.Letters.{fits}
@@ -24,20 +24,17 @@ use Rattle.channel.specs.Sized.{inboxFits, wellSized}
 use Rattle.channel.specs.Shows.{inboxOf, heldOf, flightOf, Shows}
 use Rattle.channel.specs.MemoryCalls.{SameSizes, memoryAfter, handedUp}
 use Rattle.channel.proofs.SizedFacts.{registers-words}
-pub use Rattle.channel.proofs.SizedFacts.{cards-most, tasks-most}
+pub use Rattle.channel.proofs.SizedFacts.{cards-most, tasks-most, registers-most}
 use Rattle.channel.proofs.WellSizedParts.{Fit, fit-of}
-pub use Rattle.channel.proofs.WellSizedParts.{same-cards, same-tasks, fits-same, block-words, block-sizes}
+pub use Rattle.channel.proofs.WellSizedParts.{same-cards, same-tasks, fits-same, block-words, packet-sizes}
 pub use Rattle.channel.proofs.Destinations.{member-present}
 use Rattle.channel.proofs.FitKept.{sized-of}
-pub use Rattle.channel.proofs.FitQueues.{Fits, fits-is, fits-of, block-letter, put-fits}
+pub use Rattle.channel.proofs.FitQueues.{put-packet, put-fits}
+pub use Rattle.channel.proofs.LetterFits.{Fits, fits-is, fits-of, fits-packs, carried-fits, packet-letter, word-fits-at, limits-are}
 pub use Rattle.channel.proofs.IllSized.{block-exact, channel-exact}
 use Rattle.channel.proofs.Receiving.{receive-answer}
 use Rattle.channel.proofs.ChannelLaw.{channel-follows}
 pub use Rattle.channel.proofs.ChannelLaw.{begin-follows}
-
-pub registers-most : (ws : List ℕ) → registersOf ws ≤ 32
-unfolding registersOf
-registers-most ws = omega arith
 
 pub same-registers : (us ws : List ℕ) → SameSizes us ws → registersOf us ≡ registersOf ws
 same-registers us ws s = registers-words us ws (s .registers)
@@ -50,7 +47,7 @@ sizes-fit cards tasks registers a b c d e f = and-intro (and-intro (and-intro (a
 
 -- ---- a well-sized memory
 
-module _ (ws : List ℕ) (w : ChannelState Letter) (long : length ws ≡ 4808) (ok : wellSized ws ≡ true) (v : Shows ws w) where
+module _ (ws : List ℕ) (w : ChannelState Letter) (long : length ws ≡ 1364) (ok : wellSized ws ≡ true) (v : Shows ws w) where
   -- what receiving finds
   pub hands : (card : Card) → card .0 < cardsOf ws → receiveAnswer ws card ≡ handedUp (w .inbox (card .0))
   hands card h = receive-answer ws w (sized-of ws long (fit-of ws ok)) v card ∙ rw (lt-ltb (card .0) (cardsOf ws) h)
@@ -71,7 +68,7 @@ module _ (ws : List ℕ) (w : ChannelState Letter) (long : length ws ≡ 4808) (
       go (suc n) c =
           let s : inboxOf ws i ≡ letterAt ws (placeOf ws i 0) ∷ listing (λ k. letterAt ws (placeOf ws i (suc k))) n = rw c (listing-cons _ n) in
           let q : l ≡ letterAt ws (placeOf ws i 0) = cc (v .inbox= i h, e, s) in
-          rw q (block-letter ws ws (placeOf ws i 0) (f .card i h .inbox 0 (omega arith)))
+          rw q (packet-letter ws (packetAt ws (placeOf ws i 0)) (f .card i h .inbox 0 (omega arith)))
 
 -- ---- any memory shows a state
 
@@ -106,6 +103,6 @@ module _ (ws : List ℕ) (cards tasks registers : ℕ) (ok : sizesFit cards task
   unfolding memoryAfter
   begun-sized = channel-follows ws cards tasks registers ok [] .sized
 
-  pub begun-length : length (beginMemory ws cards tasks registers) ≡ 4808
+  pub begun-length : length (beginMemory ws cards tasks registers) ≡ 1364
   unfolding memoryAfter
   begun-length = channel-follows ws cards tasks registers ok [] .long

@@ -24,7 +24,7 @@ use Rattle.channel.specs.Answers.{answerNumber, receivedNumber}
 use Rattle.channel.specs.Inbox.{receiveAnswer, receiveMemory}
 use Rattle.channel.specs.TakeBroadcast.{takeAnswer, takeMemory}
 use Rattle.channel.specs.TakeSingle.{singleAnswer, singleMemory}
-use Rattle.channel.specs.Dispatch.{letterOf, dispatchAnswer, dispatchMemory}
+use Rattle.channel.specs.Dispatch.{letterTo, dispatchAnswer, dispatchMemory}
 use Rattle.channel.specs.Sized.{wellSized}
 use Rattle.channel.specs.Shows.{letterMail, Shows}
 use Rattle.automaton.specs.Calls.{done}
@@ -39,7 +39,7 @@ pub record Passes (ws : List ℕ) (w : ChannelState Letter) (x : ChannelAction L
   pub shows : n ≡ 0 → Shows us (channelStep letterMail w x)
   pub untouched : n ≢ 0 → us ≡ ws
   pub sized : wellSized us ≡ true
-  pub long : length us ≡ 4808
+  pub long : length us ≡ 1364
   pub sizes : SameSizes us ws
 
 fine : (r : ℕ) → orElse r 0 ≡ r
@@ -49,7 +49,7 @@ fine r = go (eqb r 0) refl
     go true e = sym (eqb-true r 0 e)
     go false e = refl
 
-module _ (ws : List ℕ) (w : ChannelState Letter) (long : length ws ≡ 4808) (ok : wellSized ws ≡ true) (v : Shows ws w) where
+module _ (ws : List ℕ) (w : ChannelState Letter) (long : length ws ≡ 1364) (ok : wellSized ws ≡ true) (v : Shows ws w) where
   passes : (c : Call) → absent ws (actionOf c) ≡ 0 → unfit ws (actionOf c) ≡ 0 → Passes ws w (actionOf c) (callNumber ws c) (callMemory ws c)
   unfolding callRefusal
   passes c there fit = record {
@@ -64,8 +64,8 @@ module _ (ws : List ℕ) (w : ChannelState Letter) (long : length ws ≡ 4808) (
       k : CallFollows ws w c
       k = call-follows ws w long ok v c
 
-  pub dispatch-passes : (card : Card) (m : Message) (to : ℕ) → card .0 < cardsOf ws → fits ws (letterOf card m to) ≡ true
-      → Passes ws w (dispatch (card .0) (letterOf card m to)) (answerNumber (dispatchAnswer ws card m to)) (dispatchMemory ws card m to)
+  pub dispatch-passes : (card : Card) (m : Message) (to : ℕ) → card .0 < cardsOf ws → fits ws (letterTo m to) ≡ true
+      → Passes ws w (dispatch (card .0) (letterTo m to)) (answerNumber (dispatchAnswer ws card m to)) (dispatchMemory ws card m to)
   unfolding callNumber callMemory
   dispatch-passes card m to h f = passes (dispatchCall card m to) (rw (lt-ltb (card .0) (cardsOf ws) h)) (rw f)
 

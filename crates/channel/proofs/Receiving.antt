@@ -29,7 +29,7 @@ unfolding inboxOf listing
 inbox-none ws i e = rw e
 
 -- a popped inbox: only card i's words change
-pub popped-outside : (ws : List ℕ) (i n : ℕ) → length ws ≡ 4808 → i < 8 → countOf ws i ≡ suc n → Outside i (popped ws i) ws
+pub popped-outside : (ws : List ℕ) (i n : ℕ) → length ws ≡ 1364 → i < 8 → countOf ws i ≡ suc n → Outside i (popped ws i) ws
 popped-outside ws i n l c e =
     let p = popped-word ws i l c n e in
     record { long = popped-long ws i l c n e; low = λ a h. p a (omega arith) (omega arith); high = λ a h. p a (omega arith) (omega arith) }

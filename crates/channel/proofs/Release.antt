@@ -12,13 +12,14 @@ use lib.Seq.{getD-set-same, getD-set-other}
 use Rattle.lists.specs.Listings.{listing}
 use Rattle.lists.specs.Loops.{turns}
 use Rattle.names.specs.declared.Letter.{Letter}
+use Rattle.names.specs.declared.Packet.{Packet}
 use Rattle.automaton.specs.State.{Tagged, kept, released}
-use Rattle.names.specs.Letters.{stored}
+use Rattle.names.specs.Letters.{packetAt, tagAt, marked}
 use Rattle.channel.specs.Layout.{takenWord, headWord, countWord, heldWord, inboxBlock, heldBlock, headOf, countOf, heldCountOf, placeOf}
 use Rattle.channel.specs.Inbox.{pushed}
 use Rattle.channel.specs.TakeBroadcast.{Sweep, sweeps, swept, sweptWords, sweptKept, releasedWords}
 use Rattle.channel.specs.Shows.{taggedAt, inboxOf, heldOf}
-use Rattle.names.proofs.Blocks.{word-other, letter-same, mark-same, length-stored}
+use Rattle.names.proofs.Blocks.{packet-cong, marked-other, marked-letter, mark-same, length-marked}
 use Rattle.automaton.proofs.ReleasedLists.{released-snoc, kept-snoc}
 use Rattle.channel.proofs.InboxRing.{tagged-cong, held-cong, ring-cong, pushed-long, pushed-word, pushed-count, push-appends, push-held}
 
@@ -38,22 +39,22 @@ fewer ws i n k (suc j) =
 module _ (ws : List ℕ) (i n : ℕ) (card : i < 8) where
   -- after the first k held messages
   pub record Swept (k : ℕ) (s : Sweep) : Type 0 where
-    pub long : length (s .words) ≡ 4808
+    pub long : length (s .words) ≡ 1364
     pub few : s .kept ≤ k
     pub stay : heldFirst (s .words) i (s .kept) ≡ kept n (heldFirst ws i k)
-    pub rest : (m : ℕ) → k ≤ m → m < 16 → taggedAt (s .words) (heldBlock i m) ≡ taggedAt ws (heldBlock i m)
+    pub rest : (m : ℕ) → k ≤ m → m < 16 → (q : ℕ) → q < 3 → getD (s .words) (heldBlock i m + q) 0 ≡ getD ws (heldBlock i m + q) 0
     pub inbox : inboxOf (s .words) i ≡ inboxOf ws i ++ released n (heldFirst ws i k)
     pub count : countOf (s .words) i ≡ countOf ws i + length (released n (heldFirst ws i k))
-    pub low : (a : ℕ) → a < inboxBlock i 0 * 8 → a ≢ countWord i → getD (s .words) a 0 ≡ getD ws a 0
+    pub low : (a : ℕ) → a < inboxBlock i 0 → a ≢ countWord i → getD (s .words) a 0 ≡ getD ws a 0
     pub high : (a : ℕ) → takenWord (i + 1) ≤ a → getD (s .words) a 0 ≡ getD ws a 0
 
 -- a store among card i's held messages leaves its inbox
-module _ (ws : List ℕ) (i m : ℕ) (l : Letter) (t : ℕ) (card : i < 8) (place : m < 16) where
+module _ (ws : List ℕ) (i m : ℕ) (l : Packet) (t : ℕ) (card : i < 8) (place : m < 16) where
   abbrev moved : List ℕ
-  moved = stored ws (heldBlock i m) l t
+  moved = marked ws (heldBlock i m) l t
 
-  pub moved-word : (a : ℕ) → ((k : ℕ) → k < 8 → a ≢ (heldBlock i m) * 8 + k) → getD moved a 0 ≡ getD ws a 0
-  moved-word a h = word-other ws (heldBlock i m) l t a h
+  pub moved-word : (a : ℕ) → ((k : ℕ) → k < 3 → a ≢ heldBlock i m + k) → getD moved a 0 ≡ getD ws a 0
+  moved-word a h = marked-other ws (heldBlock i m) l t a h
 
   moved-inbox : inboxOf moved i ≡ inboxOf ws i
   unfolding inboxOf
@@ -69,12 +70,21 @@ module _ (ws : List ℕ) (i n : ℕ) (card : i < 8) (k : ℕ) (s : Sweep) (h : k
   abbrev pub y : Tagged Letter
   y = taggedAt (s .words) (heldBlock i k)
 
+  abbrev pub packet : Packet
+  packet = packetAt (s .words) (heldBlock i k)
+
   pub at-k : y ≡ x
-  at-k = v .rest k (omega arith) h
+  at-k = tagged-cong (s .words) ws (heldBlock i k) (v .rest k (omega arith) h)
+
+  pub packet-k : packet ≡ packetAt ws (heldBlock i k)
+  packet-k = packet-cong (s .words) ws (heldBlock i k) (λ q g. v .rest k (omega arith) h q (omega arith))
+
+  pub mark-k : y .mark ≡ tagAt ws (heldBlock i k)
+  mark-k = v .rest k (omega arith) h 2 (omega arith)
 
   -- it waits for n: it joins the inbox
   module _ (e : eqb (y .mark) n ≡ true) where
-    pub joins-is : swept i n k s ≡ record { words = pushed (s .words) i (y .msg); kept = s .kept }
+    pub joins-is : swept i n k s ≡ record { words = pushed (s .words) i packet; kept = s .kept }
     unfolding swept sweptWords sweptKept
     joins-is = rw e
 
@@ -95,28 +105,27 @@ module _ (ws : List ℕ) (i n : ℕ) (card : i < 8) (k : ℕ) (s : Sweep) (h : k
     pub space : countOf (s .words) i < 48
     space = omega (arith, longer, v .count)
 
-    word : (a : ℕ) → a ≢ countWord i → ((q : ℕ) → q < 8 → a ≢ (placeOf (s .words) i (countOf (s .words) i)) * 8 + q)
-        → getD (pushed (s .words) i (y .msg)) a 0 ≡ getD (s .words) a 0
-    word = pushed-word (s .words) i (y .msg) (v .long) card space
+    word : (a : ℕ) → a ≢ countWord i → ((q : ℕ) → q < 2 → a ≢ placeOf (s .words) i (countOf (s .words) i) + q)
+        → getD (pushed (s .words) i packet) a 0 ≡ getD (s .words) a 0
+    word = pushed-word (s .words) i packet (v .long) card space
 
     joins : Swept ws i n card (suc k) (swept i n k s)
     joins = rw joins-is (record {
-      long = pushed-long (s .words) i (y .msg) (v .long) card space;
+      long = pushed-long (s .words) i packet (v .long) card space;
       few = omega (arith, v .few);
-      stay = push-held (s .words) i (y .msg) (v .long) card space (s .kept) (omega (arith, v .few)) ∙ v .stay ∙ sym no-more;
-      rest = λ m p q. tagged-cong (pushed (s .words) i (y .msg)) (s .words) (heldBlock i m) (λ a g. word _ (omega arith) (λ b r. omega arith))
-          ∙ v .rest m (omega arith) q;
+      stay = push-held (s .words) i packet (v .long) card space (s .kept) (omega (arith, v .few)) ∙ v .stay ∙ sym no-more;
+      rest = λ m p q a g. word (heldBlock i m + a) (omega arith) (λ b r. omega arith) ∙ v .rest m (omega arith) q a g;
       inbox =
-          push-appends (s .words) i (y .msg) (v .long) card space ∙ ap₂ (λ a b. a ++ (b ∷ [])) (v .inbox) (ap (λ (z : Tagged Letter). z .msg) at-k)
+          push-appends (s .words) i packet (v .long) card space ∙ ap₂ (λ a b. a ++ (b ∷ [])) (v .inbox) (ap (λ (z : Tagged Letter). z .msg) at-k)
           ∙ append-assoc (inboxOf ws i) _ _ ∙ ap (inboxOf ws i ++_) (sym more);
-      count = omega (arith, pushed-count (s .words) i (y .msg) (v .long) card space, v .count, longer);
+      count = omega (arith, pushed-count (s .words) i packet (v .long) card space, v .count, longer);
       low = λ a p q. word a q (λ b r. omega arith) ∙ v .low a p q;
       high = λ a p. word a (omega arith) (λ b r. omega arith) ∙ v .high a p;
     })
 
   -- it waits on: it moves down
   module _ (e : eqb (y .mark) n ≡ false) where
-    pub stays-is : swept i n k s ≡ record { words = stored (s .words) (heldBlock i (s .kept)) (y .msg) (y .mark); kept = s .kept + 1 }
+    pub stays-is : swept i n k s ≡ record { words = marked (s .words) (heldBlock i (s .kept)) packet (y .mark); kept = s .kept + 1 }
     unfolding swept sweptWords sweptKept
     stays-is = rw e
 
@@ -135,14 +144,14 @@ module _ (ws : List ℕ) (i n : ℕ) (card : i < 8) (k : ℕ) (s : Sweep) (h : k
     place = omega (arith, v .few)
 
     abbrev us : List ℕ
-    us = stored (s .words) (heldBlock i (s .kept)) (y .msg) (y .mark)
+    us = marked (s .words) (heldBlock i (s .kept)) packet (y .mark)
 
-    other : (a : ℕ) → ((q : ℕ) → q < 8 → a ≢ (heldBlock i (s .kept)) * 8 + q) → getD us a 0 ≡ getD (s .words) a 0
-    other = moved-word (s .words) i (s .kept) (y .msg) (y .mark) card place
+    other : (a : ℕ) → ((q : ℕ) → q < 3 → a ≢ heldBlock i (s .kept) + q) → getD us a 0 ≡ getD (s .words) a 0
+    other = moved-word (s .words) i (s .kept) packet (y .mark) card place
 
     put : taggedAt us (heldBlock i (s .kept)) ≡ y
     put =
-        rw (letter-same (s .words) (heldBlock i (s .kept)) (y .msg) (y .mark) (omega (arith, v .long)), mark-same (s .words) (heldBlock i (s .kept)) (y .msg) (y .mark) (omega (arith, v .long)))
+        rw (marked-letter (s .words) (heldBlock i (s .kept)) packet (y .mark) (omega (arith, v .long)), mark-same (s .words) (heldBlock i (s .kept)) packet (y .mark) (omega (arith, v .long)))
 
     down : heldFirst us i (s .kept + 1) ≡ kept n (heldFirst ws i (suc k))
     unfolding listing
@@ -154,11 +163,11 @@ module _ (ws : List ℕ) (i n : ℕ) (card : i < 8) (k : ℕ) (s : Sweep) (h : k
 
     stays : Swept ws i n card (suc k) (swept i n k s)
     stays = rw stays-is (record {
-      long = length-stored (s .words) (heldBlock i (s .kept)) (y .msg) (y .mark) ∙ v .long;
+      long = length-marked (s .words) (heldBlock i (s .kept)) packet (y .mark) ∙ v .long;
       few = omega (arith, v .few);
       stay = down;
-      rest = λ m p q. tagged-cong us (s .words) (heldBlock i m) (λ a g. other _ (λ b r. omega (arith, v .few))) ∙ v .rest m (omega arith) q;
-      inbox = moved-inbox (s .words) i (s .kept) (y .msg) (y .mark) card place ∙ v .inbox ∙ ap (inboxOf ws i ++_) (sym same-out);
+      rest = λ m p q a g. other (heldBlock i m + a) (λ b r. omega (arith, v .few)) ∙ v .rest m (omega arith) q a g;
+      inbox = moved-inbox (s .words) i (s .kept) packet (y .mark) card place ∙ v .inbox ∙ ap (inboxOf ws i ++_) (sym same-out);
       count = other (countWord i) (λ b r. omega arith) ∙ v .count ∙ ap (λ z. countOf ws i + length z) (sym same-out);
       low = λ a p q. other a (λ b r. omega arith) ∙ v .low a p q;
       high = λ a p. other a (λ b r. omega (arith, place)) ∙ v .high a p;
@@ -171,14 +180,14 @@ module _ (ws : List ℕ) (i n : ℕ) (card : i < 8) (k : ℕ) (s : Sweep) (h : k
       go true e = joins e
       go false e = stays e
 
-pub sweeps-swept : (ws : List ℕ) (i n : ℕ) (card : i < 8) → length ws ≡ 4808 → (k j : ℕ) → k + j ≤ 16
+pub sweeps-swept : (ws : List ℕ) (i n : ℕ) (card : i < 8) → length ws ≡ 1364 → (k j : ℕ) → k + j ≤ 16
     → countOf ws i + length (released n (heldFirst ws i (k + j))) ≤ 48 → Swept ws i n card k (sweeps i n k ws)
 unfolding sweeps turns listing
 sweeps-swept ws i n card long zero j h room = record {
   long = long;
   few = omega arith;
   stay = refl;
-  rest = λ m p q. refl;
+  rest = λ m p q a g. refl;
   inbox = sym (append-nil (inboxOf ws i));
   count = omega arith;
   low = λ a p q. refl;
@@ -191,7 +200,7 @@ sweeps-swept ws i n card long (suc k) j h room =
 
 -- ---- what a release leaves
 
-module _ (ws : List ℕ) (i n : ℕ) (card : i < 8) (long : length ws ≡ 4808) (few : heldCountOf ws i ≤ 16)
+module _ (ws : List ℕ) (i n : ℕ) (card : i < 8) (long : length ws ≡ 1364) (few : heldCountOf ws i ≤ 16)
     (room : countOf ws i + length (released n (heldOf ws i)) ≤ 48) where
   abbrev pub end : Sweep
   end = sweeps i n (heldCountOf ws i) ws
@@ -207,7 +216,7 @@ module _ (ws : List ℕ) (i n : ℕ) (card : i < 8) (long : length ws ≡ 4808) 
   pub release-word : (a : ℕ) → a ≢ heldWord i → getD (releasedWords ws i n) a 0 ≡ getD (end .words) a 0
   release-word a h = rw released-is (getD-set-other (end .words) (heldWord i) a (end .kept) 0 h)
 
-  pub release-long : length (releasedWords ws i n) ≡ 4808
+  pub release-long : length (releasedWords ws i n) ≡ 1364
   release-long = rw released-is (length-set (end .words) (heldWord i) (end .kept) ∙ swept-all .long)
 
   pub release-low : (a : ℕ) → a < countWord i → getD (releasedWords ws i n) a 0 ≡ getD ws a 0

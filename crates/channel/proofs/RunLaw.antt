@@ -22,8 +22,7 @@ use Rattle.automaton.proofs.CallsEvents.{calls-events}
 use Rattle.automaton.proofs.CallsComplete.{calls-complete}
 use Rattle.names.proofs.CardSets.{single-of}
 use Rattle.channel.proofs.Destinations.{sole-present, member-present}
-use Rattle.channel.proofs.FitQueues.{fits-to, fits-small}
-use Rattle.channel.proofs.SizedDispatch.{fits-some}
+use Rattle.channel.proofs.LetterFits.{fits-to, fits-small}
 use Rattle.automaton.specs.AtRest.{GoesToCards}
 use Rattle.names.specs.CardSet.{several, soleOf, memberOf}
 use Rattle.channel.specs.Letters.{fits}
@@ -66,11 +65,11 @@ to-cards ms i l r j g = go (several (l .to)) refl g
 -- where the run stands
 record Upto (ms us : List ℕ) (w : ChannelState Letter) : Type 0 where
   pub sized : wellSized us ≡ true
-  pub long : length us ≡ 4808
+  pub long : length us ≡ 1364
   pub sizes : SameSizes us ms
   pub shows : Shows us w
 
-module _ (ms : List ℕ) (long : length ms ≡ 4808) (ok : wellSized ms ≡ true) (v : Shows ms (calls (letters ms) [])) where
+module _ (ms : List ℕ) (long : length ms ≡ 1364) (ok : wellSized ms ≡ true) (v : Shows ms (calls (letters ms) [])) where
   upto : (cs : List Call) → Upto ms (memoryAfter ms cs) (stateAfter ms cs)
   unfolding memoryAfter
   upto [] = record { sized = ok; long = long; sizes = record { cards = refl; tasks = refl; registers = refl }; shows = v }

@@ -13,41 +13,28 @@ use lib.ListN.{length, getD, set, length-append}
 use lib.Seq.{getD-set-same, getD-set-other}
 use Rattle.lists.specs.Tests.{eqb-refl, eqb-not}
 use Rattle.lists.specs.Places.{nth, nth-last, nth-old}
-use Rattle.names.specs.declared.Body.{Body}
-use Rattle.names.specs.declared.Body.the-variants.{ReadDo, UpdateDo, ReadReply, UpdateReply}
 use Rattle.names.specs.declared.Letter.{Letter}
 use Rattle.automaton.specs.State.{ChannelState, dispatching}
 use Rattle.channel.specs.Layout.{takenWord, madeWord, flightBlock, broadcastBlock, cardsOf, tasksOf, madeOf, takenOf}
-use Rattle.names.specs.Letters.{letterAt, kindAt, kindOf, stored}
+use Rattle.names.specs.Letters.{kindIn, kindOf, packetOf, Packs, letterAt, kindAt, stored, marked}
 use Rattle.channel.specs.TakeSingle.{noFlight}
 use Rattle.channel.specs.Shows.{letterMail, flightOf, Shows}
-use Rattle.names.proofs.Blocks.{word-other, letter-cong, letter-same, mark-same, kind-same, length-stored}
+use Rattle.names.proofs.Blocks.{kind-some, kind-carried, letter-back, word-other, letter-cong, letter-same, marked-other, marked-word, marked-letter, mark-same, length-stored}
 use Rattle.channel.proofs.SizedFacts.{Sized, cards-most, tasks-most, cards-words, tasks-words}
 use Rattle.channel.proofs.Frame.{inbox-words, held-words, sent-words, flight-words}
-
--- a block written has a message
-pub kind-some : (ws : List ℕ) (b : ℕ) (l : Letter) (tag : ℕ) → b * 8 + 8 ≤ length ws → (1 ≤ kindAt (stored ws b l tag) b) × (kindAt (stored ws b l tag) b ≤ 4)
-unfolding kindOf
-kind-some ws b l tag h = go (l .message .body) (kind-same ws b l tag h)
-  where
-    go : (y : Body) → kindAt (stored ws b l tag) b ≡ kindOf y → (1 ≤ kindAt (stored ws b l tag) b) × (kindAt (stored ws b l tag) b ≤ 4)
-    go ReadDo e = (omega arith, omega arith)
-    go (UpdateDo f u) e = (omega arith, omega arith)
-    go (ReadReply u) e = (omega arith, omega arith)
-    go UpdateReply e = (omega arith, omega arith)
 
 -- ---- one destination: in flight
 
 module _ (ws : List ℕ) (w : ChannelState Letter) (z : Sized ws) (v : Shows ws w) (i : ℕ) (l : Letter) (card : i < cardsOf ws)
-    (task : l .message .task .0 < tasksOf ws) where
+    (task : l .message .task .0 < tasksOf ws) (packs : Packs l) where
   abbrev pub flown : List ℕ
-  flown = stored ws (flightBlock (l .message .task .0)) l (takenOf ws i)
+  flown = marked ws (flightBlock (l .message .task .0)) (packetOf l) (takenOf ws i)
 
   t16 : l .message .task .0 < 16
   t16 = omega (arith, tasks-most ws)
 
-  pub flown-word : (a : ℕ) → ((k : ℕ) → k < 8 → a ≢ flightBlock (l .message .task .0) * 8 + k) → getD flown a 0 ≡ getD ws a 0
-  flown-word = word-other ws (flightBlock (l .message .task .0)) l (takenOf ws i)
+  pub flown-word : (a : ℕ) → ((k : ℕ) → k < 3 → a ≢ flightBlock (l .message .task .0) + k) → getD flown a 0 ≡ getD ws a 0
+  flown-word = marked-other ws (flightBlock (l .message .task .0)) (packetOf l) (takenOf ws i)
 
   pub flown-card : (j a : ℕ) → j < cardsOf ws → a < takenWord (j + 1) → getD flown a 0 ≡ getD ws a 0
   flown-card j a c q = let g = cards-most ws in flown-word a (λ k h. omega arith)
@@ -65,15 +52,18 @@ module _ (ws : List ℕ) (w : ChannelState Letter) (z : Sized ws) (v : Shows ws 
       go : Dec (d ≡ l .message .task .0)
           → cond (eqb d (l .message .task .0)) (some (record { msg = l; mark = takenOf ws i })) (w .flight d) ≡ flightOf flown d
       go (yes e) =
-          let f : flightBlock (l .message .task .0) * 8 + 8 ≤ length ws = omega (arith, z .long, t16) in
-          let k = kind-some ws (flightBlock (l .message .task .0)) l (takenOf ws i) f in
+          let f : flightBlock (l .message .task .0) + 3 ≤ length ws = omega (arith, z .long, t16) in
+          let k = kind-some (l .message .body) in
+          let q : kindAt flown (flightBlock (l .message .task .0)) ≡ kindOf (l .message .body) =
+          ap kindIn (marked-word ws (flightBlock (l .message .task .0)) (packetOf l) (takenOf ws i) f) ∙ kind-carried l in
           let n : kindAt flown (flightBlock (l .message .task .0)) ≢ 0 = omega arith in
           rw (
             e,
             eqb-refl (l .message .task .0),
             ne-eqb _ 0 n,
-            letter-same ws (flightBlock (l .message .task .0)) l (takenOf ws i) f,
-            mark-same ws (flightBlock (l .message .task .0)) l (takenOf ws i) f,
+            marked-letter ws (flightBlock (l .message .task .0)) (packetOf l) (takenOf ws i) f,
+            mark-same ws (flightBlock (l .message .task .0)) (packetOf l) (takenOf ws i) f,
+            letter-back l packs,
           )
       go (no n) = rw (eqb-not n) (v .flight= d h ∙ sym (flight-words flown ws d (λ a p q. flown-word a (λ k g. omega arith))))
 
@@ -92,7 +82,7 @@ module _ (ws : List ℕ) (w : ChannelState Letter) (z : Sized ws) (v : Shows ws 
 
 -- ---- more destinations: the next broadcast
 
-module _ (ws : List ℕ) (w : ChannelState Letter) (z : Sized ws) (v : Shows ws w) (i : ℕ) (l : Letter) where
+module _ (ws : List ℕ) (w : ChannelState Letter) (z : Sized ws) (v : Shows ws w) (i : ℕ) (l : Letter) (packs : Packs l) where
   abbrev pub n : ℕ
   n = madeOf ws + 1
 
@@ -100,19 +90,19 @@ module _ (ws : List ℕ) (w : ChannelState Letter) (z : Sized ws) (v : Shows ws 
   slot = broadcastBlock n
 
   abbrev pub written : List ℕ
-  written = stored ws slot l n
+  written = stored ws slot (packetOf l)
 
   abbrev pub cast : List ℕ
   cast = set written madeWord n
 
-  pub cast-word : (a : ℕ) → a ≢ 3 → ((k : ℕ) → k < 8 → a ≢ slot * 8 + k) → getD cast a 0 ≡ getD ws a 0
-  cast-word a h g = getD-set-other written 3 a n 0 h ∙ word-other ws slot l n a g
+  pub cast-word : (a : ℕ) → a ≢ 3 → ((k : ℕ) → k < 2 → a ≢ slot + k) → getD cast a 0 ≡ getD ws a 0
+  cast-word a h g = getD-set-other written 3 a n 0 h ∙ word-other ws slot (packetOf l) a g
 
-  pub cast-block : (k : ℕ) → k < 8 → getD cast (slot * 8 + k) 0 ≡ getD written (slot * 8 + k) 0
-  cast-block k g = getD-set-other written 3 (slot * 8 + k) n 0 (omega arith)
+  pub cast-block : (k : ℕ) → k < 2 → getD cast (slot + k) 0 ≡ getD written (slot + k) 0
+  cast-block k g = getD-set-other written 3 (slot + k) n 0 (omega arith)
 
   pub cast-made : madeOf cast ≡ n
-  cast-made = getD-set-same written 3 n 0 (omega (arith, length-stored ws slot l n, z .long))
+  cast-made = getD-set-same written 3 n 0 (omega (arith, length-stored ws slot (packetOf l), z .long))
 
   pub cast-cards : cardsOf cast ≡ cardsOf ws
   cast-cards = cards-words cast ws (cast-word 0 (omega arith) (λ k h. omega arith))
@@ -123,11 +113,11 @@ module _ (ws : List ℕ) (w : ChannelState Letter) (z : Sized ws) (v : Shows ws 
   pub cast-card : (j a : ℕ) → j < cardsOf ws → takenWord j ≤ a → a < takenWord (j + 1) → getD cast a 0 ≡ getD ws a 0
   cast-card j a c p q = let g = cards-most ws in cast-word a (omega arith) (λ k h. omega arith)
 
-  pub cast-flight : (t a : ℕ) → t < tasksOf ws → flightBlock t * 8 ≤ a → a < flightBlock (t + 1) * 8 → getD cast a 0 ≡ getD ws a 0
+  pub cast-flight : (t a : ℕ) → t < tasksOf ws → flightBlock t ≤ a → a < flightBlock (t + 1) → getD cast a 0 ≡ getD ws a 0
   cast-flight t a c p q = let g = tasks-most ws in cast-word a (omega arith) (λ k h. omega arith)
 
   pub cast-letter : letterAt cast slot ≡ l
-  cast-letter = letter-cong cast written slot cast-block ∙ letter-same ws slot l n (omega (arith, z .long))
+  cast-letter = letter-cong cast written slot cast-block ∙ letter-same ws slot (packetOf l) (omega (arith, z .long)) ∙ letter-back l packs
 
   -- the other broadcasts that are kept
   pub cast-others : (k : ℕ) → (k + 1) % 64 ≢ n % 64 → letterAt cast (broadcastBlock (k + 1)) ≡ letterAt ws (broadcastBlock (k + 1))

@@ -1,5 +1,5 @@
 -- `dispatch` keeps the memory well sized.
-use Prim.Native.Nat.{ℕ, zero, suc, _+_, _-_, _*_, _<_, _≤_, _^_}
+use Prim.Native.Nat.{ℕ, zero, suc, _+_, _-_, _*_, _<_, _≤_}
 use mathlib.Core.Path.{_≡_, refl, _∙_}
 use mathlib.Core.Bool.{Bool, true, false, cond, _||_}
 use mathlib.Core.Logic.{_≢_}
@@ -11,59 +11,49 @@ use lib.Dec.{ltb, leb}
 use lib.ListN.{length, getD, set, length-set}
 use lib.Seq.{getD-set-same, getD-set-other}
 use Rattle.lists.specs.Tests.{and-fst, and-snd, and-intro}
-use Rattle.lists.specs.Conjunctions.{and-five}
 use Rattle.lists.specs.Every.{each-at}
 use Rattle.names.specs.declared.Card.{Card}
 use Rattle.names.specs.declared.Message.{Message}
 use Rattle.names.specs.declared.Letter.{Letter}
 use Rattle.channel.specs.declared.Answer.the-variants.{Done, IllSized, FarBehind}
-use Rattle.channel.specs.Layout.{cardsWord, tasksWord, registersWord, madeWord, takenWord, flightBlock, broadcastBlock, cardsOf, tasksOf, registersOf, madeOf, takenOf}
+use Rattle.channel.specs.Layout.{cardsWord, tasksWord, registersWord, madeWord, takenWord, flightBlock, broadcastBlock, cardsOf, tasksOf, madeOf, takenOf}
 use Rattle.names.specs.CardSet.{several}
-use Rattle.names.specs.Letters.{stored, known}
-use Rattle.channel.specs.Letters.{addressed, fits}
+use Rattle.names.specs.Letters.{packetOf, letterAt, stored, marked}
+use Rattle.channel.specs.Letters.{fits}
 use Rattle.channel.specs.Answers.{isDone}
 use Rattle.channel.specs.Begin.{sizesFit}
 use Rattle.channel.specs.TakeSingle.{noFlight}
-use Rattle.channel.specs.Dispatch.{nearAt, near, castAnswer, castMemory, flyAnswer, flyMemory, letterOf, dispatchMemory}
-use Rattle.channel.specs.Sized.{flightFits, broadcastFits, headFits}
-use Rattle.names.proofs.Blocks.{word-other, length-stored}
+use Rattle.channel.specs.Dispatch.{nearAt, near, castAnswer, castMemory, flyAnswer, flyMemory, letterTo, dispatchMemory}
+use Rattle.channel.specs.Sized.{packetFits, flightFits, broadcastFits, headFits}
+use Rattle.names.proofs.Blocks.{letter-back, letter-cong, letter-same, word-other, marked-other, marked-letter, length-stored, length-marked}
 use Rattle.channel.proofs.SizedFacts.{cards-most, tasks-most}
 use Rattle.channel.proofs.AnswerNumbers.{picked}
 use Rattle.names.proofs.CardSets.{single-of}
-use Rattle.channel.proofs.DispatchLaw.{fits-task}
+use Rattle.channel.proofs.LetterFits.{fits-is, fits-packs, carried-fits}
 use Rattle.channel.specs.MemoryCalls.{SameSizes}
-use Rattle.channel.proofs.WellSizedParts.{CardFit, Fit, same-cards, same-tasks, fits-same, flight-same, broadcast-same, card-same}
-use Rattle.channel.proofs.FitQueues.{fits-small, put-letter, put-fits}
+use Rattle.channel.proofs.WellSizedParts.{CardFit, Fit, same-cards, same-tasks, packet-sizes, flight-same, broadcast-same, card-same}
+use Rattle.channel.proofs.FitQueues.{put-fits, put-tagged}
 use Rattle.channel.proofs.FitKept.{Kept, unchanged, head-same}
 
 or-intro : (a : Bool) {b : Bool} → b ≡ true → (a || b) ≡ true
 or-intro true e = refl
 or-intro false e = e
 
--- a letter that fits goes to somebody
-pub fits-some : (ws : List ℕ) (l : Letter) → fits ws l ≡ true → 1 ≤ l .to
-unfolding fits addressed
-fits-some ws l f =
-    let u =
-    and-five (ltb (l .message .task .0) (tasksOf ws)) (ltb (l .message .register .0) (registersOf ws)) (known (l .message .body)) (ltb (l .from .0) (cardsOf ws))
-    (addressed ws (l .to)) f in
-    leb-true 1 (l .to) (and-fst (leb 1 (l .to)) (ltb (l .to) (2 ^ cardsOf ws)) (u .4))
-
 -- ---- in flight
 
-module _ (ws : List ℕ) (long : length ws ≡ 4808) (f : Fit ws) (l : Letter) (tag : ℕ) (small : tag ≤ 65535) (g : fits ws l ≡ true)
+module _ (ws : List ℕ) (long : length ws ≡ 1364) (f : Fit ws) (l : Letter) (tag : ℕ) (small : tag ≤ 65535) (g : fits ws l ≡ true)
     (alone : several (l .to) ≡ false) where
   abbrev t : ℕ
   t = l .message .task .0
 
   abbrev us : List ℕ
-  us = stored ws (flightBlock t) l tag
+  us = marked ws (flightBlock t) (packetOf l) tag
 
   t16 : t < 16
-  t16 = omega (arith, fits-task ws l g, tasks-most ws)
+  t16 = omega (arith, fits-is ws l g .task, tasks-most ws)
 
-  word : (a : ℕ) → ((k : ℕ) → k < 8 → a ≢ flightBlock t * 8 + k) → getD us a 0 ≡ getD ws a 0
-  word = word-other ws (flightBlock t) l tag
+  word : (a : ℕ) → ((k : ℕ) → k < 3 → a ≢ flightBlock t + k) → getD us a 0 ≡ getD ws a 0
+  word = marked-other ws (flightBlock t) (packetOf l) tag
 
   sizes : SameSizes us ws
   sizes = record { cards = word 0 (λ k h. omega arith); tasks = word 1 (λ k h. omega arith); registers = word 2 (λ k h. omega arith) }
@@ -74,10 +64,10 @@ module _ (ws : List ℕ) (long : length ws ≡ 4808) (f : Fit ws) (l : Letter) (
     where
       go : Dec (d ≡ t) → flightFits us d ≡ true
       go (yes e) =
-          let w : flightBlock t * 8 + 8 ≤ length ws = omega (arith, t16) in
-          let fu : fits us l ≡ true = fits-same us ws sizes l ∙ g in
-          let y = put-letter us us ws (flightBlock t) l tag fu w (λ k r. refl) in
-          let b = put-fits us us ws (flightBlock t) l tag fu w (λ k r. refl) small in
+          let w : flightBlock t + 3 ≤ length ws = omega (arith, t16) in
+          let fu : packetFits us (packetOf l) ≡ true = packet-sizes us ws sizes (packetOf l) ∙ carried-fits ws l g in
+          let y = marked-letter ws (flightBlock t) (packetOf l) tag w ∙ letter-back l (fits-packs ws l g) in
+          let b = put-tagged us ws (flightBlock t) (packetOf l) tag fu small w (λ k r. refl) in
           let o = single-of (l .to) alone in
           rw e (or-intro (noFlight us t) (and-intro b (rw y o)))
       go (no n) = flight-same us ws sizes d (λ a p q. word a (λ k r. omega arith)) ∙ f .flight d h
@@ -94,13 +84,13 @@ module _ (ws : List ℕ) (long : length ws ≡ 4808) (f : Fit ws) (l : Letter) (
           flight = λ d h. slot-fit d (rw (← same-tasks us ws sizes) h);
           recent = λ k p h. rw m (broadcast-same us ws sizes (madeOf ws - k) (λ a u v. word a (λ b r. omega (arith, t16))) ∙ f .recent k (rw (← m) p) h);
         };
-        long = length-stored ws (flightBlock t) l tag ∙ long;
+        long = length-marked ws (flightBlock t) (packetOf l) tag ∙ long;
         sizes = sizes;
       }
 
 -- ---- a broadcast more
 
-module _ (ws : List ℕ) (long : length ws ≡ 4808) (f : Fit ws) (l : Letter) (g : fits ws l ≡ true) (many : several (l .to) ≡ true)
+module _ (ws : List ℕ) (long : length ws ≡ 1364) (f : Fit ws) (l : Letter) (g : fits ws l ≡ true) (many : several (l .to) ≡ true)
     (close : near ws ≡ true) (few : madeOf ws < 65535) where
   abbrev n : ℕ
   n = madeOf ws + 1
@@ -109,20 +99,20 @@ module _ (ws : List ℕ) (long : length ws ≡ 4808) (f : Fit ws) (l : Letter) (
   slot = broadcastBlock n
 
   abbrev vs : List ℕ
-  vs = stored ws slot l n
+  vs = stored ws slot (packetOf l)
 
   abbrev cs : List ℕ
   cs = set vs madeWord n
 
-  cword : (a : ℕ) → a ≢ 3 → ((k : ℕ) → k < 8 → a ≢ slot * 8 + k) → getD cs a 0 ≡ getD ws a 0
-  cword a h e = getD-set-other vs 3 a n 0 h ∙ word-other ws slot l n a e
+  cword : (a : ℕ) → a ≢ 3 → ((k : ℕ) → k < 2 → a ≢ slot + k) → getD cs a 0 ≡ getD ws a 0
+  cword a h e = getD-set-other vs 3 a n 0 h ∙ word-other ws slot (packetOf l) a e
 
   csizes : SameSizes cs ws
   csizes =
       record { cards = cword 0 (omega arith) (λ k h. omega arith); tasks = cword 1 (omega arith) (λ k h. omega arith); registers = cword 2 (omega arith) (λ k h. omega arith) }
 
   made : madeOf cs ≡ n
-  made = getD-set-same vs 3 n 0 (omega (arith, length-stored ws slot l n))
+  made = getD-set-same vs 3 n 0 (omega (arith, length-stored ws slot (packetOf l)))
 
   head-fit : headFits cs ≡ true
   unfolding headFits
@@ -151,11 +141,12 @@ module _ (ws : List ℕ) (long : length ws ≡ 4808) (f : Fit ws) (l : Letter) (
   recent-fit : (k : ℕ) → k < n → k < 64 → broadcastFits cs (n - k) ≡ true
   unfolding broadcastFits
   recent-fit zero p h =
-      let w : slot * 8 + 8 ≤ length ws = omega arith in
-      let fu : fits cs l ≡ true = fits-same cs ws csizes l ∙ g in
-      let v : (k : ℕ) → k < 8 → getD cs (slot * 8 + k) 0 ≡ getD vs (slot * 8 + k) 0 = λ k r. getD-set-other vs 3 (slot * 8 + k) n 0 (omega arith) in
+      let w : slot + 2 ≤ length ws = omega arith in
+      let fu : packetFits cs (packetOf l) ≡ true = packet-sizes cs ws csizes (packetOf l) ∙ carried-fits ws l g in
+      let v : (k : ℕ) → k < 2 → getD cs (slot + k) 0 ≡ getD vs (slot + k) 0 = λ k r. getD-set-other vs 3 (slot + k) n 0 (omega arith) in
       let e : n - 0 ≡ n = omega arith in
-      rw e (and-intro (put-fits cs cs ws slot l n fu w v (omega arith)) (rw (put-letter cs cs ws slot l n fu w v) many))
+      let y : letterAt cs slot ≡ l = letter-cong cs vs slot v ∙ letter-same ws slot (packetOf l) w ∙ letter-back l (fits-packs ws l g) in
+      rw e (and-intro (put-fits cs cs ws slot (packetOf l) fu w v) (rw y many))
   recent-fit (suc k) p h =
       let e : n - suc k ≡ madeOf ws - k = omega arith in
       rw e (broadcast-same cs ws csizes (madeOf ws - k) (λ a u v. cword a (omega arith) (λ b r. omega arith)) ∙ f .recent k (omega arith) (omega arith))
@@ -169,13 +160,13 @@ module _ (ws : List ℕ) (long : length ws ≡ 4808) (f : Fit ws) (l : Letter) (
           flight-same cs ws csizes t (λ a p q. cword a (omega arith) (λ k r. omega arith)) ∙ f .flight t (rw (← same-tasks cs ws csizes) h);
       recent = λ k p h. rw made (recent-fit k (rw (← made) p) h);
     };
-    long = length-set vs madeWord n ∙ length-stored ws slot l n ∙ long;
+    long = length-set vs madeWord n ∙ length-stored ws slot (packetOf l) ∙ long;
     sizes = csizes;
   }
 
 -- ---- step 6
 
-module _ (ws : List ℕ) (long : length ws ≡ 4808) (f : Fit ws) where
+module _ (ws : List ℕ) (long : length ws ≡ 1364) (f : Fit ws) where
   -- a card's number of broadcasts taken, which becomes a tag
   taken-small : (i : ℕ) → i < cardsOf ws → takenOf ws i ≤ 65535
   unfolding headFits
@@ -188,7 +179,7 @@ module _ (ws : List ℕ) (long : length ws ≡ 4808) (f : Fit ws) where
   fly-keeps i c l alone = go (isDone (flyAnswer ws l)) refl
     where
       us : List ℕ
-      us = stored ws (flightBlock (l .message .task .0)) l (takenOf ws i)
+      us = marked ws (flightBlock (l .message .task .0)) (packetOf l) (takenOf ws i)
 
       go : (b : Bool) → isDone (flyAnswer ws l) ≡ b → Kept (cond b us ws) ws
       go true e = flown-fit ws long f l (takenOf ws i) (taken-small i c) (picked (fits ws l) _ IllSized refl e .0) alone
@@ -199,7 +190,7 @@ module _ (ws : List ℕ) (long : length ws ≡ 4808) (f : Fit ws) where
   cast-keeps l many = go (isDone (castAnswer ws l)) refl
     where
       us : List ℕ
-      us = set (stored ws (broadcastBlock (madeOf ws + 1)) l (madeOf ws + 1)) madeWord (madeOf ws + 1)
+      us = set (stored ws (broadcastBlock (madeOf ws + 1)) (packetOf l)) madeWord (madeOf ws + 1)
 
       go : (b : Bool) → isDone (castAnswer ws l) ≡ b → Kept (cond b us ws) ws
       go true e =
@@ -214,7 +205,7 @@ module _ (ws : List ℕ) (long : length ws ≡ 4808) (f : Fit ws) where
   dispatch-keeps card m to = go (ltb (card .0) (cardsOf ws)) (several to) refl refl
     where
       l : Letter
-      l = letterOf card m to
+      l = letterTo m to
 
       go : (b c : Bool) → ltb (card .0) (cardsOf ws) ≡ b → several to ≡ c → Kept (cond b (cond c (castMemory ws l) (flyMemory ws (card .0) l)) ws) ws
       go true true p e = cast-keeps l e

@@ -18,6 +18,10 @@ pub tasks-most : (ws : List ℕ) → tasksOf ws ≤ 16
 unfolding tasksOf
 tasks-most ws = omega arith
 
+pub registers-most : (ws : List ℕ) → registersOf ws ≤ 32
+unfolding registersOf
+registers-most ws = omega arith
+
 pub cards-words : (us ws : List ℕ) → getD us cardsWord 0 ≡ getD ws cardsWord 0 → cardsOf us ≡ cardsOf ws
 unfolding cardsOf
 cards-words us ws e = rw e
@@ -31,7 +35,7 @@ unfolding registersOf
 registers-words us ws e = rw e
 
 pub record Sized (ws : List ℕ) : Type 0 where
-  pub long : length ws ≡ 4808
+  pub long : length ws ≡ 1364
   pub counts : (i : ℕ) → i < cardsOf ws → countOf ws i ≤ 48
   pub helds : (i : ℕ) → i < cardsOf ws → heldCountOf ws i ≤ 16
   pub near : (i : ℕ) → i < cardsOf ws → (takenOf ws i ≤ madeOf ws) × (madeOf ws ≤ takenOf ws i + 64)

@@ -17,7 +17,7 @@ use Rattle.channel.proofs.WellSizedParts.{Fit}
 use Rattle.channel.proofs.FitQueues.{pop-sizes, pop-box, held-same}
 use Rattle.channel.proofs.FitKept.{Kept, unchanged, card-keeps}
 
-module _ (ws : List ℕ) (long : length ws ≡ 4808) (f : Fit ws) (card : Card) where
+module _ (ws : List ℕ) (long : length ws ≡ 1364) (f : Fit ws) (card : Card) where
   abbrev i : ℕ
   i = card .0
 

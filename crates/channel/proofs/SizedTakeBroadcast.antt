@@ -10,14 +10,14 @@ use Rattle.lists.specs.Tests.{and-fst}
 use Rattle.lists.specs.Queues.{push}
 use Rattle.names.specs.CardSet.{several}
 use Rattle.names.specs.declared.Card.{Card}
-use Rattle.names.specs.declared.Letter.{Letter}
+use Rattle.names.specs.declared.Packet.{Packet}
+use Rattle.names.specs.Letters.{letterOf}
 use Rattle.automaton.specs.State.{released}
-use Rattle.channel.specs.Layout.{takenWord, headWord, countWord, heldWord, broadcastBlock, cardsOf, madeOf, takenOf, headOf, countOf, heldCountOf}
-use Rattle.channel.specs.Letters.{fits}
+use Rattle.channel.specs.Layout.{takenWord, headWord, countWord, heldWord, cardsOf, madeOf, takenOf, headOf, countOf, heldCountOf}
 use Rattle.channel.specs.Inbox.{pushed}
 use Rattle.channel.specs.Answers.{isDone}
-use Rattle.channel.specs.TakeBroadcast.{releasedWords, joined, nextLetter, nextThere, takeAnswer, takeMemory}
-use Rattle.channel.specs.Sized.{blockFits, broadcastFits}
+use Rattle.channel.specs.TakeBroadcast.{releasedWords, joined, nextPacket, nextLetter, nextThere, takeAnswer, takeMemory}
+use Rattle.channel.specs.Sized.{packetFits, broadcastFits}
 use Rattle.channel.specs.Shows.{inboxOf, heldOf}
 use Rattle.channel.proofs.InboxRing.{pushed-word, pushed-count, pushed-head}
 use Rattle.channel.proofs.Release.{release-low}
@@ -25,23 +25,23 @@ use Rattle.channel.proofs.SizedFacts.{cards-most}
 use Rattle.channel.proofs.Taking.{numbered, one-word, one-long, one-room, begun-out, begun-in, joined-shows}
 use Rattle.channel.proofs.TakeBroadcastLaw.{inbox-length, push-length, Took, took}
 use Rattle.channel.specs.MemoryCalls.{SameSizes}
-use Rattle.channel.proofs.WellSizedParts.{Fit, fits-same}
-use Rattle.channel.proofs.FitQueues.{block-letter, BoxFit, HeldFit, box-same, push-sizes, push-box, held-same}
+use Rattle.channel.proofs.WellSizedParts.{Fit, packet-sizes}
+use Rattle.channel.proofs.FitQueues.{BoxFit, HeldFit, box-same, push-sizes, push-box, held-same}
 use Rattle.channel.proofs.FitRelease.{sizes-trans, release-few, release-box, release-fit}
 use Rattle.channel.proofs.FitKept.{Kept, unchanged, outside-sizes, sized-of, card-keeps}
 
 -- the next broadcast that a card takes fits
-pub next-fits : (ws : List ℕ) → Fit ws → (i : ℕ) → i < cardsOf ws → takenOf ws i < madeOf ws → fits ws (nextLetter ws i) ≡ true
+pub next-fits : (ws : List ℕ) → Fit ws → (i : ℕ) → i < cardsOf ws → takenOf ws i < madeOf ws → packetFits ws (nextPacket ws i) ≡ true
 unfolding broadcastFits
 next-fits ws f i c more =
     let x = f .card i c in
     let near : madeOf ws ≤ takenOf ws i + 64 = x .near in
     let e : madeOf ws - (madeOf ws - (takenOf ws i + 1)) ≡ takenOf ws i + 1 = omega arith in
     let b = rw e at (f .recent (madeOf ws - (takenOf ws i + 1)) (omega arith) (omega arith)) in
-    block-letter ws ws (broadcastBlock (takenOf ws i + 1)) (and-fst (blockFits ws ws (broadcastBlock (takenOf ws i + 1))) (several (nextLetter ws i .to)) b)
+    and-fst (packetFits ws (nextPacket ws i)) (several (nextLetter ws i .to)) b
 
-module _ (ws : List ℕ) (i n : ℕ) (l : Letter) (card : i < 8) (whole : length ws ≡ 4808) (small : heldCountOf ws i ≤ 16)
-    (b : BoxFit ws i) (h : HeldFit ws i (heldCountOf ws i)) (f : fits ws l ≡ true) where
+module _ (ws : List ℕ) (i n : ℕ) (l : Packet) (card : i < 8) (whole : length ws ≡ 1364) (small : heldCountOf ws i ≤ 16)
+    (b : BoxFit ws i) (h : HeldFit ws i (heldCountOf ws i)) (f : packetFits ws l ≡ true) where
   abbrev vs : List ℕ
   vs = numbered ws i n l card whole small
 
@@ -64,7 +64,7 @@ module _ (ws : List ℕ) (i n : ℕ) (l : Letter) (card : i < 8) (whole : length
     pub fit : HeldFit us i (heldCountOf us i)
     pub head : headOf us i ≡ headOf ws i
 
-  finish : (us : List ℕ) → length us ≡ 4808 → heldCountOf us i ≡ heldCountOf ws i → heldOf us i ≡ heldOf ws i → headOf us i ≡ headOf ws i
+  finish : (us : List ℕ) → length us ≡ 1364 → heldCountOf us i ≡ heldCountOf ws i → heldOf us i ≡ heldOf ws i → headOf us i ≡ headOf ws i
       → countOf us i + length (released n (heldOf ws i)) ≤ 48 → BoxFit us i → HeldFit us i (heldCountOf us i) → After (releasedWords us i n)
   finish us long few held head room x y =
       let g : heldCountOf us i ≤ 16 = omega arith in
@@ -91,21 +91,21 @@ module _ (ws : List ℕ) (i n : ℕ) (l : Letter) (card : i < 8) (whole : length
       let few : heldCountOf vs i ≤ 16 = omega (arith, word (heldWord i) (omega arith)) in
       let k : heldCountOf (pushed vs i l) i ≡ heldCountOf vs i = p (heldWord i) (omega arith) (λ q w. omega arith) in
       finish (pushed vs i l) (g .long) (g .few) (g .held) (pushed-head vs i l long card r ∙ word (headWord i) (omega arith)) (omega arith)
-      (push-box vs i l long card r (fits-same (pushed vs i l) ws y l ∙ f) one-box)
+      (push-box vs i l long card r (packet-sizes (pushed vs i l) ws y l ∙ f) one-box)
       (rw k (held-same (pushed vs i l) vs i (heldCountOf vs i) z (λ a u v. p a (omega arith) (λ q w. omega arith)) one-fit))
   after false room =
       let g = begun-out ws i n l card whole small in
       let e = word (countWord i) (omega arith) in
       finish vs (g .long) (g .few) (g .held) (word (headWord i) (omega arith)) (omega arith) one-box one-fit
 
-module _ (ws : List ℕ) (long : length ws ≡ 4808) (f : Fit ws) (card : Card) where
+module _ (ws : List ℕ) (long : length ws ≡ 1364) (f : Fit ws) (card : Card) where
   abbrev i : ℕ
   i = card .0
 
-  taken-fit : Took ws card → Kept (joined ws i (takenOf ws i + 1) (nextLetter ws i) (nextThere ws i)) ws
+  taken-fit : Took ws card → Kept (joined ws i (takenOf ws i + 1) (nextPacket ws i) (nextThere ws i)) ws
   taken-fit k =
       let n : ℕ = takenOf ws i + 1 in
-      let l : Letter = nextLetter ws i in
+      let l : Packet = nextPacket ws i in
       let us : List ℕ = joined ws i n l (nextThere ws i) in
       let c8 : i < 8 = omega (arith, cards-most ws, k .there) in
       let x = f .card i (k .there) in
@@ -115,9 +115,9 @@ module _ (ws : List ℕ) (long : length ws ≡ 4808) (f : Fit ws) (card : Card) 
       let g = after ws i n l c8 long (x .held) (x .inbox) (x .helds) (next-fits ws f i (k .there) (k .more)) (nextThere ws i) (k .room) in
       let t : takenOf us i ≡ takenOf ws i + 1 = j .taken in
       let c : countOf us i ≡ countOf ws i + cond (nextThere ws i) 1 0 + length (released n (heldOf ws i)) =
-      sym (inbox-length us i) ∙ ap length (j .inbox) ∙ length-append (push (nextThere ws i) l (inboxOf ws i)) (released n (heldOf ws i))
+      sym (inbox-length us i) ∙ ap length (j .inbox) ∙ length-append (push (nextThere ws i) (letterOf l) (inboxOf ws i)) (released n (heldOf ws i))
       ∙ ap (λ (q : ℕ). q + length (released n (heldOf ws i)))
-      (push-length (nextThere ws i) l (inboxOf ws i) ∙ ap (λ (q : ℕ). q + cond (nextThere ws i) 1 0) (inbox-length ws i)) in
+      (push-length (nextThere ws i) (letterOf l) (inboxOf ws i) ∙ ap (λ (q : ℕ). q + cond (nextThere ws i) 1 0) (inbox-length ws i)) in
       record {
         fit = card-keeps us ws i (k .there) (j .out) f (record {
           behind = rw t (omega arith);
@@ -137,6 +137,6 @@ module _ (ws : List ℕ) (long : length ws ≡ 4808) (f : Fit ws) (card : Card) 
   take-keeps = go (isDone (takeAnswer ws card)) refl
     where
       go : (b : Bool) → isDone (takeAnswer ws card) ≡ b
-          → Kept (cond b (joined ws i (takenOf ws i + 1) (nextLetter ws i) (nextThere ws i)) ws) ws
+          → Kept (cond b (joined ws i (takenOf ws i + 1) (nextPacket ws i) (nextThere ws i)) ws) ws
       go true e = taken-fit (took ws (sized-of ws long f) card e)
       go false e = unchanged ws long f

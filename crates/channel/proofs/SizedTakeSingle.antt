@@ -9,11 +9,11 @@ use native.Mathlib.Numerals.{add-one}
 use native.Mathlib.Omega.{arith}
 use lib.ListN.{length, getD, length-set}
 use Rattle.names.specs.declared.Task.{Task}
-use Rattle.names.specs.declared.Letter.{Letter}
+use Rattle.names.specs.declared.Packet.{Packet}
 use Rattle.channel.specs.Layout.{takenWord, headWord, countWord, heldWord, flightBlock, cardsOf, tasksOf, madeOf, takenOf, headOf, countOf, heldCountOf}
 use Rattle.channel.specs.Inbox.{pushed}
 use Rattle.channel.specs.Answers.{isDone}
-use Rattle.channel.specs.TakeSingle.{flightLetter, flightTag, flightTo, joinsAt, heldMore, landed, singleAnswer, singleMemory}
+use Rattle.channel.specs.TakeSingle.{flightPacket, flightTag, flightTo, joinsAt, heldMore, landed, singleAnswer, singleMemory}
 use Rattle.channel.specs.Sized.{flightFits}
 use Rattle.channel.proofs.InboxRing.{pushed-word, pushed-long, pushed-count, pushed-head}
 use Rattle.channel.proofs.HeldMore.{more-word, more-long, more-count, more-block}
@@ -22,25 +22,25 @@ use Rattle.channel.proofs.Frame.{Outside}
 use Rattle.channel.proofs.Landing.{vacated, vacated-word, vacated-slot}
 use Rattle.channel.proofs.TakeSingleLaw.{Landed, landed-knew}
 use Rattle.channel.specs.MemoryCalls.{SameSizes}
-use Rattle.channel.proofs.WellSizedParts.{Fit, same-cards, same-tasks, fits-same, flight-same, broadcast-same, card-same}
+use Rattle.channel.proofs.WellSizedParts.{Fit, same-cards, same-tasks, packet-sizes, flight-same, broadcast-same, card-same}
 use Rattle.channel.proofs.FitQueues.{push-sizes, push-box, box-same, held-same, held-put}
 use Rattle.channel.proofs.FitRelease.{sizes-trans}
-use Rattle.channel.proofs.FitKept.{Kept, unchanged, FlightLetter, flight-letter, head-same, outside-sizes, card-keeps}
+use Rattle.channel.proofs.FitKept.{Kept, unchanged, FlightPacket, flight-packet, head-same, outside-sizes, card-keeps}
 
 -- ---- task t's slot made empty
 
-module _ (ws : List ℕ) (long : length ws ≡ 4808) (f : Fit ws) (t : ℕ) (small : t < 16) where
+module _ (ws : List ℕ) (long : length ws ≡ 1364) (f : Fit ws) (t : ℕ) (small : t < 16) where
   abbrev vs : List ℕ
   vs = vacated ws t small
 
-  word : (a : ℕ) → a ≢ flightBlock t * 8 → getD vs a 0 ≡ getD ws a 0
+  word : (a : ℕ) → a ≢ flightBlock t → getD vs a 0 ≡ getD ws a 0
   word = vacated-word ws t small
 
   pub vacated-sizes : SameSizes vs ws
   vacated-sizes = record { cards = word 0 (omega arith); tasks = word 1 (omega arith); registers = word 2 (omega arith) }
 
-  pub vacated-long : length vs ≡ 4808
-  vacated-long = length-set ws (flightBlock t * 8) 0 ∙ long
+  pub vacated-long : length vs ≡ 1364
+  vacated-long = length-set ws (flightBlock t) 0 ∙ long
 
   slot-fit : (d : ℕ) → d < tasksOf ws → flightFits vs d ≡ true
   unfolding flightFits
@@ -63,26 +63,26 @@ module _ (ws : List ℕ) (long : length ws ≡ 4808) (f : Fit ws) (t : ℕ) (sma
 
 -- ---- then the message joins card i's inbox, or is held there
 
-module _ (ws : List ℕ) (long : length ws ≡ 4808) (f : Fit ws) (t : ℕ) (k : Landed ws t) where
+module _ (ws : List ℕ) (long : length ws ≡ 1364) (f : Fit ws) (t : ℕ) (k : Landed ws t) where
   t16 : t < 16
   t16 = omega (arith, tasks-most ws, k .present)
 
   abbrev us : List ℕ
   us = vacated ws t t16
 
-  abbrev l : Letter
-  l = flightLetter ws t
+  abbrev l : Packet
+  l = flightPacket ws t
 
   abbrev i : ℕ
   i = flightTo ws t
 
-  letter : FlightLetter ws t l
-  letter = flight-letter ws t (f .flight t (k .present)) (k .flying)
+  letter : FlightPacket ws t l
+  letter = flight-packet ws t (f .flight t (k .present)) (k .flying)
 
   c8 : i < 8
   c8 = omega (arith, cards-most ws, letter .present)
 
-  whole : length us ≡ 4808
+  whole : length us ≡ 1364
   whole = vacated-long ws long f t t16
 
   fit : Fit us
@@ -93,7 +93,7 @@ module _ (ws : List ℕ) (long : length ws ≡ 4808) (f : Fit ws) (t : ℕ) (k :
 
   joins-fit : countOf ws i < 48 → Kept (pushed us i l) ws
   joins-fit room =
-      let r : countOf us i < 48 = rw (vacated-word ws t t16 (countWord i) (omega arith)) room in
+      let r : countOf us i < 48 = rw (vacated-word ws t t16 (countWord i) (omega (arith, c8))) room in
       let p = pushed-word us i l whole c8 r in
       let x = fit .card i here in
       let few : heldCountOf us i ≤ 16 = x .held in
@@ -110,7 +110,7 @@ module _ (ws : List ℕ) (long : length ws ≡ 4808) (f : Fit ws) (t : ℕ) (k :
           head = rw (pushed-head us i l whole c8 r) (x .head);
           count = rw (pushed-count us i l whole c8 r) (omega arith);
           held = rw ed few;
-          inbox = push-box us i l whole c8 r (fits-same (pushed us i l) ws y l ∙ letter .fit) (x .inbox);
+          inbox = push-box us i l whole c8 r (packet-sizes (pushed us i l) ws y l ∙ letter .fit) (x .inbox);
           helds = rw ed (held-same (pushed us i l) us i (heldCountOf us i) z (λ a u v. p a (omega arith) (λ q w. omega arith)) (x .helds));
         });
         long = o .long;
@@ -121,7 +121,7 @@ module _ (ws : List ℕ) (long : length ws ≡ 4808) (f : Fit ws) (t : ℕ) (k :
   waits-fit room =
       let tag : ℕ = flightTag ws t in
       let vs : List ℕ = heldMore us i l tag in
-      let r : heldCountOf us i < 16 = rw (vacated-word ws t t16 (heldWord i) (omega arith)) room in
+      let r : heldCountOf us i < 16 = rw (vacated-word ws t t16 (heldWord i) (omega (arith, c8))) room in
       let p = more-word us i l tag c8 whole r in
       let x = fit .card i here in
       let o : Outside i vs us =
@@ -141,7 +141,7 @@ module _ (ws : List ℕ) (long : length ws ≡ 4808) (f : Fit ws) (t : ℕ) (k :
           held = rw ed (omega arith);
           inbox = box-same vs us i z eh ec (λ a u v. p a (omega arith) (λ q w. omega arith)) (x .inbox);
           helds = rw (ed, add-one (heldCountOf us i)) (held-put vs us i (heldCountOf us i) l tag z r c8 whole (λ a u v. p a (omega arith) (λ q w. omega arith))
-              (more-block us i l tag c8 whole r) (letter .small) (fits-same vs ws y l ∙ letter .fit) (x .helds));
+              (more-block us i l tag c8 whole r) (letter .small) (packet-sizes vs ws y l ∙ letter .fit) (x .helds));
         });
         long = o .long;
         sizes = y;
@@ -153,14 +153,14 @@ module _ (ws : List ℕ) (long : length ws ≡ 4808) (f : Fit ws) (t : ℕ) (k :
   landed-fit true p q = joins-fit p
   landed-fit false p q = waits-fit q
 
-module _ (ws : List ℕ) (long : length ws ≡ 4808) (f : Fit ws) (task : Task) where
+module _ (ws : List ℕ) (long : length ws ≡ 1364) (f : Fit ws) (task : Task) where
   pub single-keeps : Kept (singleMemory ws task) ws
   unfolding singleMemory
   single-keeps = go (isDone (singleAnswer ws task)) refl
     where
       us : List ℕ
       us =
-          landed ws (task .0) (flightTo ws (task .0)) (flightLetter ws (task .0)) (flightTag ws (task .0))
+          landed ws (task .0) (flightTo ws (task .0)) (flightPacket ws (task .0)) (flightTag ws (task .0))
           (joinsAt ws (flightTo ws (task .0)) (flightTag ws (task .0)))
 
       go : (b : Bool) → isDone (singleAnswer ws task) ≡ b → Kept (cond b us ws) ws

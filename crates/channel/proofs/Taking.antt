@@ -14,17 +14,19 @@ use Rattle.lists.specs.Tests.{eqb-refl, eqb-not}
 use Rattle.lists.specs.Queues.{push}
 use Rattle.lists.specs.Places.{nth}
 use Rattle.names.specs.declared.Letter.{Letter}
+use Rattle.names.specs.declared.Packet.{Packet}
+use Rattle.names.specs.Letters.{letterOf}
 use Rattle.automaton.specs.State.{ChannelState, kept, released, taking}
 use Rattle.channel.specs.Layout.{takenWord, headWord, countWord, heldWord, cardsOf, madeOf, takenOf, headOf, countOf, heldCountOf, placeOf}
 use Rattle.channel.specs.Inbox.{pushed}
-use Rattle.channel.specs.TakeBroadcast.{releasedWords, joined, nextLetter, nextThere}
+use Rattle.channel.specs.TakeBroadcast.{releasedWords, joined, nextPacket, nextLetter, nextThere}
 use Rattle.channel.specs.Shows.{letterMail, inboxOf, heldOf, Shows}
 use Rattle.channel.proofs.InboxRing.{held-cong, ring-cong, pushed-long, pushed-word, pushed-count, push-appends, push-held}
 use Rattle.channel.proofs.Release.{release-long, release-low, release-high, release-held, release-inbox}
 use Rattle.channel.proofs.SizedFacts.{Sized, cards-most}
 use Rattle.channel.proofs.Frame.{Outside, card-shows}
 
-module _ (ws : List ℕ) (i n : ℕ) (l : Letter) (card : i < 8) (whole : length ws ≡ 4808) (small : heldCountOf ws i ≤ 16) where
+module _ (ws : List ℕ) (i n : ℕ) (l : Packet) (card : i < 8) (whole : length ws ≡ 1364) (small : heldCountOf ws i ≤ 16) where
   -- the number taken, first
   abbrev pub numbered : List ℕ
   numbered = set ws (takenWord i) n
@@ -32,7 +34,7 @@ module _ (ws : List ℕ) (i n : ℕ) (l : Letter) (card : i < 8) (whole : length
   pub one-word : (a : ℕ) → a ≢ takenWord i → getD numbered a 0 ≡ getD ws a 0
   one-word a h = getD-set-other ws (takenWord i) a n 0 h
 
-  pub one-long : length numbered ≡ 4808
+  pub one-long : length numbered ≡ 1364
   one-long = length-set ws (takenWord i) n ∙ whole
 
   one-inbox : inboxOf numbered i ≡ inboxOf ws i
@@ -52,17 +54,17 @@ module _ (ws : List ℕ) (i n : ℕ) (l : Letter) (card : i < 8) (whole : length
     pub out : Outside i us ws
     pub taken : takenOf us i ≡ n
     pub held : heldOf us i ≡ kept n (heldOf ws i)
-    pub inbox : inboxOf us i ≡ push there l (inboxOf ws i) ++ released n (heldOf ws i)
+    pub inbox : inboxOf us i ≡ push there (letterOf l) (inboxOf ws i) ++ released n (heldOf ws i)
 
   -- before the release
   pub record Begun (there : Bool) (us : List ℕ) : Type 0 where
-    pub long : length us ≡ 4808
+    pub long : length us ≡ 1364
     pub low : (a : ℕ) → a < takenWord i → getD us a 0 ≡ getD ws a 0
     pub high : (a : ℕ) → takenWord (i + 1) ≤ a → getD us a 0 ≡ getD ws a 0
     pub taken : takenOf us i ≡ n
     pub few : heldCountOf us i ≡ heldCountOf ws i
     pub held : heldOf us i ≡ heldOf ws i
-    pub inbox : inboxOf us i ≡ push there l (inboxOf ws i)
+    pub inbox : inboxOf us i ≡ push there (letterOf l) (inboxOf ws i)
 
   finish : (there : Bool) (us : List ℕ) → Begun there us → countOf us i + length (released n (heldOf ws i)) ≤ 48 → Joined there (releasedWords us i n)
   finish there us b room =
@@ -94,7 +96,7 @@ module _ (ws : List ℕ) (i n : ℕ) (l : Letter) (card : i < 8) (whole : length
     pub one-room : countOf numbered i < 48
     one-room = rw (one-word (countWord i) (omega arith)) room
 
-    two-word : (a : ℕ) → a ≢ countWord i → ((k : ℕ) → k < 8 → a ≢ placeOf numbered i (countOf numbered i) * 8 + k)
+    two-word : (a : ℕ) → a ≢ countWord i → ((k : ℕ) → k < 2 → a ≢ placeOf numbered i (countOf numbered i) + k)
         → getD (pushed numbered i l) a 0 ≡ getD numbered a 0
     two-word = pushed-word numbered i l one-long card one-room
 
@@ -110,7 +112,7 @@ module _ (ws : List ℕ) (i n : ℕ) (l : Letter) (card : i < 8) (whole : length
           taken = two-word (takenWord i) (omega arith) (λ k g. omega arith) ∙ getD-set-same ws (takenWord i) n 0 (omega arith);
           few = f ∙ one-word (heldWord i) (omega arith);
           held = rw f (push-held numbered i l one-long card one-room (heldCountOf numbered i) m) ∙ one-held;
-          inbox = push-appends numbered i l one-long card one-room ∙ ap (_++ (l ∷ [])) one-inbox;
+          inbox = push-appends numbered i l one-long card one-room ∙ ap (_++ (letterOf l ∷ [])) one-inbox;
         }
 
   pub joined-shows : (there : Bool) → countOf ws i + length (released n (heldOf ws i)) + cond there 1 0 ≤ 48 → Joined there (joined ws i n l there)
@@ -128,15 +130,15 @@ module _ (ws : List ℕ) (w : ChannelState Letter) (z : Sized ws) (v : Shows ws 
   next-is = rw (v .taken= i card) (v .sent= (takenOf ws i) more (z .near i card .1))
 
   pub take-shows : countOf ws i + length (released (takenOf ws i + 1) (heldOf ws i)) + cond (nextThere ws i) 1 0 ≤ 48
-      → Shows (joined ws i (takenOf ws i + 1) (nextLetter ws i) (nextThere ws i)) (taking letterMail w i (some (nextLetter ws i)))
+      → Shows (joined ws i (takenOf ws i + 1) (nextPacket ws i) (nextThere ws i)) (taking letterMail w i (some (nextLetter ws i)))
   take-shows room =
       let n : ℕ = takenOf ws i + 1 in
-      let l : Letter = nextLetter ws i in
+      let l : Packet = nextPacket ws i in
       let c8 : i < 8 = omega (arith, cards-most ws) in
       let j = joined-shows ws i n l c8 (z .long) (z .helds i card) (nextThere ws i) room in
       let e : suc (w .taken i) ≡ n = ap suc (v .taken= i card) ∙ sym (add-one (takenOf ws i)) in
       let y : eqb i i ≡ true = eqb-refl i in
-      card-shows ws (joined ws i n l (nextThere ws i)) w (taking letterMail w i (some l)) i card (z .helds) v (j .out)
+      card-shows ws (joined ws i n l (nextThere ws i)) w (taking letterMail w i (some (letterOf l))) i card (z .helds) v (j .out)
       refl (λ t. refl)
       (λ k q. (rw (eqb-not q), rw (eqb-not q), rw (eqb-not q)))
       (rw y (e ∙ sym (j .taken)))

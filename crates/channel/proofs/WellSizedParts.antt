@@ -1,23 +1,25 @@
 -- Well-sizedness, place by place, and where only some words change.
-use Prim.Native.Nat.{ℕ, _+_, _-_, _*_, _<_, _≤_, min}
-use mathlib.Core.Path.{_≡_, _∙_}
+use Prim.Native.Nat.{ℕ, _+_, _-_, _*_, _%_, _<_, _≤_, min}
+use mathlib.Core.Path.{_≡_, ap, _∙_}
 use mathlib.Core.Bool.{true}
 use mathlib.Core.List.{List}
+use native.Mathlib.Decide.{decLt}
 use native.Mathlib.Omega.{arith}
-use borrow.Author.Tests.{ltb-true, leb-true, lt-ltb, le-leb}
+use borrow.Author.Tests.{ltb-true, leb-true, lt-ltb, le-ltb, le-leb}
 use lib.Dec.{ltb, leb}
 use lib.ListN.{getD}
 use Rattle.lists.specs.Tests.{and-intro}
 use Rattle.lists.specs.Conjunctions.{and-three, and-four, and-five}
 use Rattle.lists.specs.Every.{each, each-at, each-of}
 use Rattle.names.specs.declared.Letter.{Letter}
+use Rattle.names.specs.declared.Packet.{Packet}
 use Rattle.channel.specs.Layout.{takenWord, headWord, countWord, heldWord, heldBlock, flightBlock, broadcastBlock, cardsOf, tasksOf, madeOf, takenOf, headOf, countOf, heldCountOf, placeOf}
-use Rattle.names.specs.Letters.{letterAt, kindAt, tagAt}
+use Rattle.names.specs.Letters.{letterOf, packetAt, letterAt}
 use Rattle.channel.specs.Letters.{addressed, fits}
 use Rattle.channel.specs.TakeSingle.{noFlight}
-use Rattle.channel.specs.Sized.{blockFits, inboxFits, heldFits, flightFits, broadcastFits, countsFit, cardFits, recentFits, headFits, wellSized}
+use Rattle.channel.specs.Sized.{packetFits, blockFits, taggedFits, inboxFits, heldFits, flightFits, broadcastFits, countsFit, cardFits, firstRecent, recentFits, headFits, wellSized}
 use Rattle.channel.specs.MemoryCalls.{SameSizes}
-use Rattle.names.proofs.Blocks.{letter-cong}
+use Rattle.names.proofs.Blocks.{packet-cong, letter-cong}
 use Rattle.channel.proofs.SizedFacts.{cards-words, tasks-words, registers-words}
 
 -- card i's part, where m broadcasts are made
@@ -67,35 +69,49 @@ fit-card ws i f =
     (rw mc (each-of (countOf ws i) (inboxFits ws i) (f .inbox))))
     (rw mh (each-of (heldCountOf ws i) (heldFits ws i) (f .helds)))
 
+-- the place of the last k-th broadcast, and which broadcast is at a place
+pub recent-place : (ws : List ℕ) (k : ℕ) → k < madeOf ws → k < 64
+    → (j : ℕ) × (j < min (madeOf ws) 64) × (broadcastBlock (madeOf ws - k) ≡ broadcastBlock (firstRecent ws + j))
+recent-place ws k m h = go (decLt (madeOf ws) 64)
+  where
+    go : Dec (madeOf ws < 64) → (j : ℕ) × (j < min (madeOf ws) 64) × (broadcastBlock (madeOf ws - k) ≡ broadcastBlock (firstRecent ws + j))
+    go (yes l) = (madeOf ws - k - 1, omega arith, rw (lt-ltb (madeOf ws) 64 l) (omega arith))
+    go (no g) = ((madeOf ws - k) % 64, omega arith, rw (le-ltb (madeOf ws) 64 (omega arith)) (omega arith))
+
+pub recent-number : (ws : List ℕ) (j : ℕ) → j < min (madeOf ws) 64
+    → (k : ℕ) × (k < madeOf ws) × (k < 64) × (broadcastBlock (firstRecent ws + j) ≡ broadcastBlock (madeOf ws - k))
+recent-number ws j h = go (decLt (madeOf ws) 64)
+  where
+    go : Dec (madeOf ws < 64) → (k : ℕ) × (k < madeOf ws) × (k < 64) × (broadcastBlock (firstRecent ws + j) ≡ broadcastBlock (madeOf ws - k))
+    go (yes l) = (madeOf ws - (j + 1), omega arith, omega arith, rw (lt-ltb (madeOf ws) 64 l) (omega arith))
+    go (no g) = ((madeOf ws - j) % 64, omega arith, omega arith, rw (le-ltb (madeOf ws) 64 (omega arith)) (omega arith))
+
 pub fit-of : (ws : List ℕ) → wellSized ws ≡ true → Fit ws
-unfolding wellSized recentFits
+unfolding wellSized recentFits broadcastFits
 fit-of ws e =
     let u = and-four (headFits ws) (each (cardsOf ws) (cardFits ws)) (each (tasksOf ws) (flightFits ws)) (each (min (madeOf ws) 64) (recentFits ws)) e in
     record {
       sizes = u .0;
       card = λ i c. card-fit ws i (each-at (cardsOf ws) (cardFits ws) (u .1) i c);
       flight = each-at (tasksOf ws) (flightFits ws) (u .2);
-      recent = λ k m h. each-at (min (madeOf ws) 64) (recentFits ws) (u .3) k (omega arith);
+      recent = λ k m h.
+          let x = recent-place ws k m h in
+          rw (x .2) (each-at (min (madeOf ws) 64) (recentFits ws) (u .3) (x .0) (x .1));
     }
 
 pub of-fit : (ws : List ℕ) → Fit ws → wellSized ws ≡ true
-unfolding wellSized recentFits
+unfolding wellSized recentFits broadcastFits
 of-fit ws f =
     and-intro (and-intro (and-intro (f .sizes)
     (each-of (cardsOf ws) (cardFits ws) (λ i c. fit-card ws i (f .card i c))))
     (each-of (tasksOf ws) (flightFits ws) (f .flight)))
-    (each-of (min (madeOf ws) 64) (recentFits ws) (λ k h. f .recent k (omega arith) (omega arith)))
+    (each-of (min (madeOf ws) 64) (recentFits ws) (λ k h. let x = recent-number ws k h in rw (x .3) (f .recent (x .0) (x .1) (x .2))))
 
 -- ---- words that agree
 
 -- of a block
-pub block-words : (cs us ws : List ℕ) (b : ℕ) → ((k : ℕ) → k < 8 → getD us (b * 8 + k) 0 ≡ getD ws (b * 8 + k) 0) → blockFits cs us b ≡ blockFits cs ws b
-unfolding blockFits
-block-words cs us ws b e =
-    let z : b * 8 + 0 ≡ b * 8 = omega arith in
-    let k : kindAt us b ≡ kindAt ws b = rw z at (e 0 (omega arith)) in
-    let t : tagAt us b ≡ tagAt ws b = e 7 (omega arith) in
-    rw (k, t, letter-cong us ws b e)
+pub block-words : (cs us ws : List ℕ) (b : ℕ) → ((k : ℕ) → k < 2 → getD us (b + k) 0 ≡ getD ws (b + k) 0) → blockFits cs us b ≡ blockFits cs ws b
+block-words cs us ws b e = ap (packetFits cs) (packet-cong us ws b e)
 
 module _ (us ws : List ℕ) (s : SameSizes us ws) where
   pub same-cards : cardsOf us ≡ cardsOf ws
@@ -109,33 +125,31 @@ module _ (us ws : List ℕ) (s : SameSizes us ws) where
   fits-same l = rw (same-cards, same-tasks, registers-words us ws (s .registers))
 
   -- where only the sizes' memory is another
-  pub block-sizes : (vs : List ℕ) (b : ℕ) → blockFits us vs b ≡ blockFits ws vs b
-  unfolding blockFits
-  block-sizes vs b = rw (fits-same (letterAt vs b))
+  pub packet-sizes : (p : Packet) → packetFits us p ≡ packetFits ws p
+  unfolding packetFits
+  packet-sizes p = rw (fits-same (letterOf p))
 
   -- block b
-  module _ (b : ℕ) (e : (k : ℕ) → k < 8 → getD us (b * 8 + k) 0 ≡ getD ws (b * 8 + k) 0) where
-    pub letter= : letterAt us b ≡ letterAt ws b
-    letter= = letter-cong us ws b e
+  pub block-same : (b : ℕ) → ((k : ℕ) → k < 2 → getD us (b + k) 0 ≡ getD ws (b + k) 0) → blockFits us us b ≡ blockFits ws ws b
+  block-same b e = block-words us us ws b e ∙ packet-sizes (packetAt ws b)
 
-    pub kind= : kindAt us b ≡ kindAt ws b
-    kind= = let z : b * 8 + 0 ≡ b * 8 = omega arith in rw z at (e 0 (omega arith))
+  -- and its tag
+  pub tagged-same : (b : ℕ) → ((k : ℕ) → k < 3 → getD us (b + k) 0 ≡ getD ws (b + k) 0) → taggedFits us b ≡ taggedFits ws b
+  unfolding taggedFits
+  tagged-same b e = rw (block-same b (λ k h. e k (omega arith)), e 2 (omega arith))
 
-    pub block-same : blockFits us us b ≡ blockFits ws ws b
-    block-same = block-words us us ws b e ∙ block-sizes ws b
-
-  pub flight-same : (t : ℕ) → ((a : ℕ) → flightBlock t * 8 ≤ a → a < flightBlock (t + 1) * 8 → getD us a 0 ≡ getD ws a 0) → flightFits us t ≡ flightFits ws t
+  pub flight-same : (t : ℕ) → ((a : ℕ) → flightBlock t ≤ a → a < flightBlock (t + 1) → getD us a 0 ≡ getD ws a 0) → flightFits us t ≡ flightFits ws t
   unfolding flightFits noFlight
   flight-same t e =
-      let g : (k : ℕ) → k < 8 → getD us (flightBlock t * 8 + k) 0 ≡ getD ws (flightBlock t * 8 + k) 0 = λ k h. e _ (omega arith) (omega arith) in
-      rw (kind= (flightBlock t) g, block-same (flightBlock t) g, letter= (flightBlock t) g)
+      let g : (k : ℕ) → k < 3 → getD us (flightBlock t + k) 0 ≡ getD ws (flightBlock t + k) 0 = λ k h. e _ (omega arith) (omega arith) in
+      rw (tagged-same (flightBlock t) g, letter-cong us ws (flightBlock t) (λ k h. g k (omega arith)), e (flightBlock t) (omega arith) (omega arith))
 
-  pub broadcast-same : (n : ℕ) → ((a : ℕ) → broadcastBlock n * 8 ≤ a → a < (broadcastBlock n + 1) * 8 → getD us a 0 ≡ getD ws a 0)
+  pub broadcast-same : (n : ℕ) → ((a : ℕ) → broadcastBlock n ≤ a → a < broadcastBlock n + 2 → getD us a 0 ≡ getD ws a 0)
       → broadcastFits us n ≡ broadcastFits ws n
   unfolding broadcastFits
   broadcast-same n e =
-      let g : (k : ℕ) → k < 8 → getD us (broadcastBlock n * 8 + k) 0 ≡ getD ws (broadcastBlock n * 8 + k) 0 = λ k h. e _ (omega arith) (omega arith) in
-      rw (block-same (broadcastBlock n) g, letter= (broadcastBlock n) g)
+      let g : (k : ℕ) → k < 2 → getD us (broadcastBlock n + k) 0 ≡ getD ws (broadcastBlock n + k) 0 = λ k h. e _ (omega arith) (omega arith) in
+      rw (block-same (broadcastBlock n) g, letter-cong us ws (broadcastBlock n) g)
 
   -- card j's part
   pub card-same : (m j : ℕ) → ((a : ℕ) → takenWord j ≤ a → a < takenWord (j + 1) → getD us a 0 ≡ getD ws a 0) → CardFit ws m j → CardFit us m j
@@ -152,10 +166,10 @@ module _ (us ws : List ℕ) (s : SameSizes us ws) where
         count = rw ec (f .count);
         held = rw ed (f .held);
         inbox = λ k h.
-            let g : (q : ℕ) → q < 8 → getD us (placeOf ws j k * 8 + q) 0 ≡ getD ws (placeOf ws j k * 8 + q) 0 = λ q r. e _ (omega arith) (omega arith) in
+            let g : (q : ℕ) → q < 2 → getD us (placeOf ws j k + q) 0 ≡ getD ws (placeOf ws j k + q) 0 = λ q r. e _ (omega arith) (omega arith) in
             rw (eh, block-same (placeOf ws j k) g) (f .inbox k (rw (← ec) h));
         helds = λ k h.
             let d : k < 16 = omega (arith, f .held) in
-            let g : (q : ℕ) → q < 8 → getD us (heldBlock j k * 8 + q) 0 ≡ getD ws (heldBlock j k * 8 + q) 0 = λ q r. e _ (omega arith) (omega arith) in
-            rw (block-same (heldBlock j k) g) (f .helds k (rw (← ed) h));
+            let g : (q : ℕ) → q < 3 → getD us (heldBlock j k + q) 0 ≡ getD ws (heldBlock j k + q) 0 = λ q r. e _ (omega arith) (omega arith) in
+            rw (tagged-same (heldBlock j k) g) (f .helds k (rw (← ed) h));
       }

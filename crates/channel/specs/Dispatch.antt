@@ -13,7 +13,7 @@ use Rattle.channel.specs.declared.Answer.the-variants.{Done, IllSized, N
 use Rattle.channel.specs.Answers.{isDone}
 use Rattle.channel.specs.Layout.{madeWord, cardsOf, madeOf, takenOf, broadcastBlock, flightBlock}
 use Rattle.names.specs.CardSet.{several}
-use Rattle.names.specs.Letters.{stored}
+use Rattle.names.specs.Letters.{packetOf, stored, marked}
 use Rattle.channel.specs.Letters.{fits}
 use Rattle.channel.specs.TakeSingle.{noFlight}
 
@@ -30,27 +30,27 @@ castAnswer ws l = cond (near ws) (cond (fits ws l) (cond (ltb (madeOf ws) 65535)
 
 unfoldable pub castMemory : List ℕ → Letter → List ℕ
 castMemory ws l =
-    cond (isDone (castAnswer ws l)) (set (stored ws (broadcastBlock (madeOf ws + 1)) l (madeOf ws + 1)) madeWord (madeOf ws + 1)) ws
+    cond (isDone (castAnswer ws l)) (set (stored ws (broadcastBlock (madeOf ws + 1)) (packetOf l)) madeWord (madeOf ws + 1)) ws
 
 -- 6 for the letter, and for a second message of the task in flight (RULES 7.4)
 unfoldable pub flyAnswer : List ℕ → Letter → Answer
 flyAnswer ws l = cond (fits ws l) (cond (noFlight ws (l .message .task .0)) Done IllSized) IllSized
 
 unfoldable pub flyMemory : List ℕ → ℕ → Letter → List ℕ
-flyMemory ws i l = cond (isDone (flyAnswer ws l)) (stored ws (flightBlock (l .message .task .0)) l (takenOf ws i)) ws
+flyMemory ws i l = cond (isDone (flyAnswer ws l)) (marked ws (flightBlock (l .message .task .0)) (packetOf l) (takenOf ws i)) ws
 
-abbrev pub letterOf : Card → Message → ℕ → Letter
-letterOf card m to = record { message = m; from = card; to = to }
+abbrev pub letterTo : Message → ℕ → Letter
+letterTo m to = record { message = m; to = to }
 
 -- 14 an absent card
 unfoldable pub dispatchAnswer : List ℕ → Card → Message → ℕ → Answer
 dispatchAnswer ws card m to =
     cond (ltb (card .0) (cardsOf ws))
-    (cond (several to) (castAnswer ws (letterOf card m to)) (flyAnswer ws (letterOf card m to)))
+    (cond (several to) (castAnswer ws (letterTo m to)) (flyAnswer ws (letterTo m to)))
     NoCard
 
 unfoldable pub dispatchMemory : List ℕ → Card → Message → ℕ → List ℕ
 dispatchMemory ws card m to =
     cond (ltb (card .0) (cardsOf ws))
-    (cond (several to) (castMemory ws (letterOf card m to)) (flyMemory ws (card .0) (letterOf card m to)))
+    (cond (several to) (castMemory ws (letterTo m to)) (flyMemory ws (card .0) (letterTo m to)))
     ws

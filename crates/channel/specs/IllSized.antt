@@ -20,14 +20,12 @@ pub data PastLimit (cs : List ℕ) (l : Letter) : Type 0 where
   absent-register : registersOf cs ≤ l .message .register .0 → PastLimit cs l
   no-function : (v : ℕ) → l .message .body ≡ UpdateDo 0 v → PastLimit cs l
   unknown-function : (f v : ℕ) → l .message .body ≡ UpdateDo f v → 5 < f → PastLimit cs l
-  absent-sender : cardsOf cs ≤ l .from .0 → PastLimit cs l
   absent-destination : 2 ^ cardsOf cs ≤ l .to → PastLimit cs l
   no-destination : l .to ≡ 0 → PastLimit cs l
 
--- Block b of memory ws: f and i of its message; g, its tag; i, a kind of message that there is not.
+-- At word b of memory ws: f and i of its message; i, a kind of message that there is not.
 pub data PastBlock (cs ws : List ℕ) (b : ℕ) : Type 0 where
   past-field : PastLimit cs (letterAt ws b) → PastBlock cs ws b
-  past-tag : 65535 < tagAt ws b → PastBlock cs ws b
   no-kind : kindAt ws b ≡ 0 → PastBlock cs ws b
   unknown-kind : 4 < kindAt ws b → PastBlock cs ws b
 
@@ -44,11 +42,14 @@ pub data IllChannel (ws : List ℕ) : Type 0 where
   -- c: an inbox, and what is held
   inbox : (i : ℕ) → i < cardsOf ws → 48 < countOf ws i → IllChannel ws
   held : (i : ℕ) → i < cardsOf ws → 16 < heldCountOf ws i → IllChannel ws
-  -- f, g, i: of a message in an inbox, held, in flight, or among the last 64 broadcasts
+  -- f, i: of a message in an inbox, held, in flight, or among the last 64 broadcasts
   inbox-message : (i k : ℕ) → i < cardsOf ws → k < countOf ws i → PastBlock ws ws (placeOf ws i k) → IllChannel ws
   held-message : (i k : ℕ) → i < cardsOf ws → k < heldCountOf ws i → PastBlock ws ws (heldBlock i k) → IllChannel ws
   flight-message : (t : ℕ) → t < tasksOf ws → noFlight ws t ≡ false → PastBlock ws ws (flightBlock t) → IllChannel ws
   broadcast-message : (k : ℕ) → k < madeOf ws → k < 64 → PastBlock ws ws (broadcastBlock (madeOf ws - k)) → IllChannel ws
+  -- g: a tag
+  held-tag : (i k : ℕ) → i < cardsOf ws → k < heldCountOf ws i → 65535 < tagAt ws (heldBlock i k) → IllChannel ws
+  flight-tag : (t : ℕ) → t < tasksOf ws → noFlight ws t ≡ false → 65535 < tagAt ws (flightBlock t) → IllChannel ws
   -- h: broadcasts taken
   above : (i : ℕ) → i < cardsOf ws → madeOf ws < takenOf ws i → IllChannel ws
   below : (i : ℕ) → i < cardsOf ws → takenOf ws i + 64 < madeOf ws → IllChannel ws

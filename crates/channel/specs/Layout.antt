@@ -1,7 +1,7 @@
--- Where things lie in the channel's memory, 4,808 words that the caller lends (RULES 11.1). Word 0 is the number of cards, word 1 of tasks,
--- word 2 of registers, word 3 of broadcasts made; words 4 to 7 are zero. Then card after card, 520 words each: taken, head, inbox count, held
--- count, four spare words, 48 blocks of inbox (a ring), 16 blocks of held messages. Then a block for each task's message in flight, then the
--- last 64 broadcasts, number n in block n % 64 of them. A block has eight words (Letters) and starts at a multiple of eight.
+-- Where things lie in the channel's memory, 1,364 words that the caller lends (RULES 11.1, 11.12). Word 0 is the number of cards, word 1 of
+-- tasks, word 2 of registers, word 3 of broadcasts made. Then card after card, 148 words each: taken, head, inbox count, held count, 48 packets
+-- of inbox (a ring), 16 held messages. Then each task's message in flight, then the last 64 broadcasts, number n at place n % 64 of them. A
+-- packet has two words (names/specs/Letters); a message held or in flight has its tag in a third.
 use Prim.Native.Nat.{ℕ, _+_, _*_, _%_, min}
 use mathlib.Core.Bool.{cond}
 use mathlib.Core.List.{List}
@@ -23,32 +23,32 @@ abbrev pub madeWord : ℕ
 madeWord = 3
 
 abbrev pub takenWord : ℕ → ℕ
-takenWord i = 8 + i * 520
+takenWord i = 4 + i * 148
 
 abbrev pub headWord : ℕ → ℕ
-headWord i = 8 + i * 520 + 1
+headWord i = 4 + i * 148 + 1
 
 abbrev pub countWord : ℕ → ℕ
-countWord i = 8 + i * 520 + 2
+countWord i = 4 + i * 148 + 2
 
 abbrev pub heldWord : ℕ → ℕ
-heldWord i = 8 + i * 520 + 3
+heldWord i = 4 + i * 148 + 3
 
--- ---- numbers of blocks; block b starts at word b * 8
+-- ---- where packets start
 
 -- place k of card i's ring
 abbrev pub inboxBlock : ℕ → ℕ → ℕ
-inboxBlock i k = 2 + i * 65 + k
+inboxBlock i k = 8 + i * 148 + k * 2
 
 -- place k of what is held for card i
 abbrev pub heldBlock : ℕ → ℕ → ℕ
-heldBlock i k = 50 + i * 65 + k
+heldBlock i k = 104 + i * 148 + k * 3
 
 abbrev pub flightBlock : ℕ → ℕ
-flightBlock t = 521 + t
+flightBlock t = 1188 + t * 3
 
 abbrev pub broadcastBlock : ℕ → ℕ
-broadcastBlock n = 537 + n % 64
+broadcastBlock n = 1236 + n % 64 * 2
 
 -- ---- the words read. A size above its limit (RULES 1.3), which no well-sized memory has, counts as the limit (11.9)
 
@@ -81,7 +81,7 @@ countOf ws i = getD ws (countWord i) 0
 abbrev pub heldCountOf : List ℕ → ℕ → ℕ
 heldCountOf ws i = getD ws (heldWord i) 0
 
--- the block of place k of card i's inbox, oldest first
+-- where place k of card i's inbox lies, oldest first
 abbrev pub placeOf : List ℕ → ℕ → ℕ → ℕ
 placeOf ws i k = inboxBlock i ((headOf ws i % 48 + k) % 48)
 

@@ -23,7 +23,7 @@ use Rattle.channel.specs.Begin.{sizesFit, beginAnswer, beginMemory}
 use Rattle.channel.specs.Inbox.{receiveAnswer, receiveMemory}
 use Rattle.channel.specs.TakeBroadcast.{takeAnswer, takeMemory}
 use Rattle.channel.specs.TakeSingle.{singleAnswer, singleMemory}
-use Rattle.channel.specs.Dispatch.{letterOf, dispatchAnswer, dispatchMemory}
+use Rattle.channel.specs.Dispatch.{letterTo, dispatchAnswer, dispatchMemory}
 use Rattle.channel.specs.Sized.{wellSized}
 use Rattle.channel.specs.Shows.{letterMail, Shows}
 use Rattle.automaton.specs.Calls.{Setup, done, calls, CallsPromise, CallsEvents}
@@ -63,7 +63,7 @@ answersAfter ws (c ∷ cs) = callNumber (memoryAfter ws cs) c ∷ answersAfter w
 -- ---- on the idealised channel, over letters
 
 abbrev pub actionOf : Call → ChannelAction Letter
-actionOf (dispatchCall card m to) = dispatch (card .0) (letterOf card m to)
+actionOf (dispatchCall card m to) = dispatch (card .0) (letterTo m to)
 actionOf (takeBroadcastCall card) = takeBroadcast (card .0)
 actionOf (takeSingleCall task) = takeSingle (task .0)
 actionOf (receiveCall card) = deliver (card .0)
@@ -129,7 +129,7 @@ pub record CallFollows (ws : List ℕ) (w : ChannelState Letter) (c : Call) : Ty
   pub number : callNumber ws c ≡ callRefusal ws w (actionOf c)
   pub shows : Shows (callMemory ws c) (cond (done (letters ws) w (actionOf c)) (channelStep letterMail w (actionOf c)) w)
   pub sized : wellSized (callMemory ws c) ≡ true
-  pub long : length (callMemory ws c) ≡ 4808
+  pub long : length (callMemory ws c) ≡ 1364
   pub sizes : SameSizes (callMemory ws c) ws
   pub untouched : callNumber ws c ≢ 0 → callMemory ws c ≡ ws
 
@@ -147,7 +147,7 @@ pub record BeginFollows (ws : List ℕ) (cards tasks registers : ℕ) : Type 0 w
 -- channel holds of the calls' multicasts and receives, and if the channel is at rest the run is complete in the paper's sense.
 pub record RunFollows (ms : List ℕ) (cs : List Call) : Type 0 where
   pub sized : wellSized (memoryAfter ms cs) ≡ true
-  pub long : length (memoryAfter ms cs) ≡ 4808
+  pub long : length (memoryAfter ms cs) ≡ 1364
   pub sizes : SameSizes (memoryAfter ms cs) ms
   pub shows : Shows (memoryAfter ms cs) (stateAfter ms cs)
   pub answers : answersAfter ms cs ≡ refusalsAfter ms (actionsOf cs)

@@ -8,11 +8,12 @@ use Rattle.lists.specs.Loops.{turns, total}
 use Rattle.names.specs.CardSet.{memberOf, several}
 use Rattle.names.specs.declared.Card.{Card}
 use Rattle.names.specs.declared.Letter.{Letter}
+use Rattle.names.specs.declared.Packet.{Packet}
 use Rattle.channel.specs.declared.Answer.{Answer}
 use Rattle.channel.specs.declared.Answer.the-variants.{NoCard, NoBroadcast, Crowded}
 use Rattle.channel.specs.Answers.{isDone, unlessFull}
 use Rattle.channel.specs.Layout.{takenWord, heldWord, cardsOf, madeOf, takenOf, countOf, heldCountOf, placeOf, heldBlock, broadcastBlock}
-use Rattle.names.specs.Letters.{letterAt, tagAt, stored}
+use Rattle.names.specs.Letters.{letterOf, packetAt, letterAt, tagAt, marked}
 use Rattle.channel.specs.Inbox.{pushed}
 
 -- 1 where held message k of card i waits for broadcast n, else 0
@@ -40,8 +41,8 @@ pub record Sweep : Type 0 where
 unfoldable pub sweptWords : ℕ → ℕ → ℕ → List ℕ → ℕ → List ℕ
 sweptWords i n k ws kept =
     cond (eqb (tagAt ws (heldBlock i k)) n)
-    (pushed ws i (letterAt ws (heldBlock i k)))
-    (stored ws (heldBlock i kept) (letterAt ws (heldBlock i k)) (tagAt ws (heldBlock i k)))
+    (pushed ws i (packetAt ws (heldBlock i k)))
+    (marked ws (heldBlock i kept) (packetAt ws (heldBlock i k)) (tagAt ws (heldBlock i k)))
 
 unfoldable pub sweptKept : ℕ → ℕ → ℕ → List ℕ → ℕ → ℕ
 sweptKept i n k ws kept = cond (eqb (tagAt ws (heldBlock i k)) n) kept (kept + 1)
@@ -59,21 +60,28 @@ releasedWords ws i n =
     let s : Sweep = sweeps i n (min (heldCountOf ws i) 16) ws in
     set (s .words) (heldWord i) (s .kept)
 
--- broadcast n, whose letter is l, joins card i's inbox, and then what waited for it
-abbrev pub arrived : List ℕ → ℕ → ℕ → Letter → List ℕ
-arrived ws i n l = releasedWords (pushed ws i l) i n
+-- broadcast n, whose packet is p, joins card i's inbox, and then what waited for it
+abbrev pub arrived : List ℕ → ℕ → ℕ → Packet → List ℕ
+arrived ws i n p = releasedWords (pushed ws i p) i n
 
--- card i has taken broadcast n, whose letter is l; `there`: it is a destination
-unfoldable pub joined : List ℕ → ℕ → ℕ → Letter → Bool → List ℕ
-joined ws i n l there = cond there (arrived (set ws (takenWord i) n) i n l) (releasedWords (set ws (takenWord i) n) i n)
+-- card i has taken broadcast n, whose packet is p; `there`: it is a destination
+unfoldable pub joined : List ℕ → ℕ → ℕ → Packet → Bool → List ℕ
+joined ws i n p there = cond there (arrived (set ws (takenWord i) n) i n p) (releasedWords (set ws (takenWord i) n) i n)
+
+-- card i is a destination of broadcast n
+abbrev pub thereAt : List ℕ → ℕ → ℕ → Bool
+thereAt ws i n = memberOf (letterAt ws (broadcastBlock n) .to) i
 
 -- the next broadcast for card i
+abbrev pub nextPacket : List ℕ → ℕ → Packet
+nextPacket ws i = packetAt ws (broadcastBlock (takenOf ws i + 1))
+
 abbrev pub nextLetter : List ℕ → ℕ → Letter
-nextLetter ws i = letterAt ws (broadcastBlock (takenOf ws i + 1))
+nextLetter ws i = letterOf (nextPacket ws i)
 
 -- card i is a destination of it
 abbrev pub nextThere : List ℕ → ℕ → Bool
-nextThere ws i = memberOf (nextLetter ws i .to) i
+nextThere ws i = thereAt ws i (takenOf ws i + 1)
 
 -- 35: the card is a destination with 32 undelivered broadcasts (RULES 7.6); 6: a 49th message in the inbox (7.2)
 unfoldable pub roomAnswer : List ℕ → ℕ → ℕ → Bool → Answer
@@ -84,11 +92,11 @@ roomAnswer ws i n there =
 
 -- card i takes broadcast n, where there is room
 abbrev pub nextAnswer : List ℕ → ℕ → ℕ → Answer
-nextAnswer ws i n = roomAnswer ws i n (memberOf (letterAt ws (broadcastBlock n) .to) i)
+nextAnswer ws i n = roomAnswer ws i n (thereAt ws i n)
 
 abbrev pub nextMemory : List ℕ → ℕ → ℕ → List ℕ
 nextMemory ws i n =
-    cond (isDone (nextAnswer ws i n)) (joined ws i n (letterAt ws (broadcastBlock n)) (memberOf (letterAt ws (broadcastBlock n) .to) i)) ws
+    cond (isDone (nextAnswer ws i n)) (joined ws i n (packetAt ws (broadcastBlock n)) (thereAt ws i n)) ws
 
 -- 14 an absent card; 31: no broadcast to take
 unfoldable pub takeAnswer : List ℕ → Card → Answer
@@ -103,5 +111,5 @@ takeAnswer ws card =
 unfoldable pub takeMemory : List ℕ → Card → List ℕ
 takeMemory ws card =
     cond (isDone (takeAnswer ws card))
-    (joined ws (card .0) (takenOf ws (card .0) + 1) (nextLetter ws (card .0)) (nextThere ws (card .0)))
+    (joined ws (card .0) (takenOf ws (card .0) + 1) (nextPacket ws (card .0)) (nextThere ws (card .0)))
     ws

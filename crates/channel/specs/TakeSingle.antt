@@ -1,22 +1,26 @@
 -- Step 8 (RULES 5.8).
-use Prim.Native.Nat.{ℕ, _+_, _*_}
+use Prim.Native.Nat.{ℕ, _+_}
 use mathlib.Core.Bool.{Bool, cond}
 use mathlib.Core.List.{List}
 use lib.Dec.{eqb, ltb, leb}
 use lib.ListN.{set}
 use Rattle.names.specs.declared.Task.{Task}
 use Rattle.names.specs.declared.Letter.{Letter}
+use Rattle.names.specs.declared.Packet.{Packet}
 use Rattle.channel.specs.declared.Answer.{Answer}
 use Rattle.channel.specs.declared.Answer.the-variants.{IllSized, NoTask, NoneInFlight}
 use Rattle.channel.specs.Answers.{isDone, unlessFull}
 use Rattle.channel.specs.Layout.{heldWord, tasksOf, takenOf, countOf, heldCountOf, heldBlock, flightBlock}
 use Rattle.names.specs.CardSet.{single, soleOf}
-use Rattle.names.specs.Letters.{letterAt, kindAt, tagAt, stored}
+use Rattle.names.specs.Letters.{packetAt, letterAt, kindAt, tagAt, marked}
 use Rattle.channel.specs.Inbox.{pushed}
 
 -- task t has nothing in flight
 unfoldable pub noFlight : List ℕ → ℕ → Bool
 noFlight ws t = eqb (kindAt ws (flightBlock t)) 0
+
+abbrev pub flightPacket : List ℕ → ℕ → Packet
+flightPacket ws t = packetAt ws (flightBlock t)
 
 abbrev pub flightLetter : List ℕ → ℕ → Letter
 flightLetter ws t = letterAt ws (flightBlock t)
@@ -32,18 +36,18 @@ flightTo ws t = soleOf (flightLetter ws t .to)
 unfoldable pub joinsAt : List ℕ → ℕ → ℕ → Bool
 joinsAt ws i tag = leb tag (takenOf ws i)
 
--- one letter more among those held for card i, where there is room
-unfoldable pub heldMore : List ℕ → ℕ → Letter → ℕ → List ℕ
-heldMore ws i l tag =
+-- one packet more among those held for card i, where there is room
+unfoldable pub heldMore : List ℕ → ℕ → Packet → ℕ → List ℕ
+heldMore ws i p tag =
     cond (ltb (heldCountOf ws i) 16)
-    (set (stored ws (heldBlock i (heldCountOf ws i)) l tag) (heldWord i) (heldCountOf ws i + 1))
+    (set (marked ws (heldBlock i (heldCountOf ws i)) p tag) (heldWord i) (heldCountOf ws i + 1))
     ws
 
 -- task t's message in flight reaches card i
-unfoldable pub landed : List ℕ → ℕ → ℕ → Letter → ℕ → Bool → List ℕ
-landed ws t i l tag joins =
-    let us : List ℕ = set ws (flightBlock t * 8) 0 in
-    cond joins (pushed us i l) (heldMore us i l tag)
+unfoldable pub landed : List ℕ → ℕ → ℕ → Packet → ℕ → Bool → List ℕ
+landed ws t i p tag joins =
+    let us : List ℕ = set ws (flightBlock t) 0 in
+    cond joins (pushed us i p) (heldMore us i p tag)
 
 -- 6: a 49th message in the inbox (RULES 7.2), or a 17th held (7.3)
 unfoldable pub landAnswer : List ℕ → ℕ → Bool → Answer
@@ -57,7 +61,7 @@ reachAnswer ws t =
 abbrev pub reachMemory : List ℕ → ℕ → List ℕ
 reachMemory ws t =
     cond (isDone (reachAnswer ws t))
-    (landed ws t (flightTo ws t) (flightLetter ws t) (flightTag ws t) (joinsAt ws (flightTo ws t) (flightTag ws t)))
+    (landed ws t (flightTo ws t) (flightPacket ws t) (flightTag ws t) (joinsAt ws (flightTo ws t) (flightTag ws t)))
     ws
 
 -- 12 an absent task; 32: nothing of it in flight
@@ -71,6 +75,6 @@ singleAnswer ws task =
 unfoldable pub singleMemory : List ℕ → Task → List ℕ
 singleMemory ws task =
     cond (isDone (singleAnswer ws task))
-    (landed ws (task .0) (flightTo ws (task .0)) (flightLetter ws (task .0)) (flightTag ws (task .0))
+    (landed ws (task .0) (flightTo ws (task .0)) (flightPacket ws (task .0)) (flightTag ws (task .0))
     (joinsAt ws (flightTo ws (task .0)) (flightTag ws (task .0))))
     ws

@@ -18,13 +18,13 @@ use super::layout::set_held;
 use super::layout::set_taken;
 use super::layout::taken_of;
 use super::letters::load;
-use super::letters::store;
+use super::letters::mark;
 use super::letters::tag_at;
 use super::letters::to_at;
 use crate::Answer;
 use names::BroadcastNumber;
 use names::Card;
-use names::Letter;
+use names::Packet;
 use names::wide;
 
 // Whether a message with this tag waits for broadcast n.
@@ -35,7 +35,7 @@ fn waits(tag: BroadcastNumber, n: BroadcastNumber) -> bool
 }
 
 // 1 where the held message k of a card waits for broadcast n, else 0.
-fn ready(memory: &[u32; 4808], card: Card, n: BroadcastNumber, k: usize) -> usize
+fn ready(memory: &[u32; 1364], card: Card, n: BroadcastNumber, k: usize) -> usize
     requires { ⌜ (card .0 < 8) × (k < 16) ⌝ }
     ensures { λ r. ⌜ (r ≡ readyAt (now (memory .entry)) (card .0) (n .0) k) × (r ≤ 1) ⌝ }
 {
@@ -47,7 +47,7 @@ fn ready(memory: &[u32; 4808], card: Card, n: BroadcastNumber, k: usize) -> usiz
 }
 
 // How many held messages of a card wait for broadcast n.
-fn releasable(memory: &[u32; 4808], card: Card, n: BroadcastNumber) -> usize
+fn releasable(memory: &[u32; 1364], card: Card, n: BroadcastNumber) -> usize
     requires { ⌜ card .0 < 8 ⌝ }
     ensures { λ r. ⌜ (r ≡ releasableOf (now (memory .entry)) (card .0) (n .0)) × (r ≤ 16) ⌝ }
 {
@@ -62,24 +62,24 @@ fn releasable(memory: &[u32; 4808], card: Card, n: BroadcastNumber) -> usize
 }
 
 // One held message: it joins the inbox where its tag is n, and else it moves down to place `kept`.
-fn sweep(memory: &mut [u32; 4808], card: Card, n: BroadcastNumber, k: usize, kept: usize) -> usize
+fn sweep(memory: &mut [u32; 1364], card: Card, n: BroadcastNumber, k: usize, kept: usize) -> usize
     requires { ⌜ (card .0 < 8) × (k < 16) × (kept ≤ k) ⌝ }
     ensures memory { λ _. ⌜ now (memory .exit) ≡ sweptWords (card .0) (n .0) k (now (memory .entry)) kept ⌝ }
     ensures kept { λ r. ⌜ (r ≡ sweptKept (card .0) (n .0) k (now (memory .entry)) kept) × (r ≤ kept + 1) ⌝ }
 {
     let block = held_block(card, k);
-    let letter = load(memory, block);
-    let mark = tag_at(memory, block);
-    if waits(mark, n) {
-        push(memory, card, letter);
+    let packet = load(memory, block);
+    let tag = tag_at(memory, block);
+    if waits(tag, n) {
+        push(memory, card, packet);
         return kept;
     }
-    store(memory, held_block(card, kept), letter, mark);
+    mark(memory, held_block(card, kept), packet, tag);
     kept + 1
 }
 
 // The held messages of a card with tag n join its inbox in order, and the others close up.
-fn release(memory: &mut [u32; 4808], card: Card, n: BroadcastNumber)
+fn release(memory: &mut [u32; 1364], card: Card, n: BroadcastNumber)
     requires { ⌜ card .0 < 8 ⌝ }
     ensures { λ _. ⌜ now (memory .exit) ≡ releasedWords (now (memory .entry)) (card .0) (n .0) ⌝ }
 {
@@ -94,7 +94,7 @@ fn release(memory: &mut [u32; 4808], card: Card, n: BroadcastNumber)
 }
 
 // 1 where the message at place k of a card's inbox came by broadcast, else 0.
-fn broadcast_at(memory: &[u32; 4808], card: Card, k: u32) -> usize
+fn broadcast_at(memory: &[u32; 1364], card: Card, k: u32) -> usize
     requires { ⌜ (card .0 < 8) × (k < 48) ⌝ }
     ensures { λ r. ⌜ (r ≡ broadcastAt (now (memory .entry)) (card .0) k) × (r ≤ 1) ⌝ }
 {
@@ -105,7 +105,7 @@ fn broadcast_at(memory: &[u32; 4808], card: Card, k: u32) -> usize
 }
 
 // How many broadcasts stand in a card's inbox.
-fn broadcasts(memory: &[u32; 4808], card: Card) -> usize
+fn broadcasts(memory: &[u32; 1364], card: Card) -> usize
     requires { ⌜ card .0 < 8 ⌝ }
     ensures { λ r. ⌜ (r ≡ broadcastsOf (now (memory .entry)) (card .0)) × (r ≤ 48) ⌝ }
 {
@@ -120,7 +120,7 @@ fn broadcasts(memory: &[u32; 4808], card: Card) -> usize
 }
 
 // Whether a card's inbox has 32 broadcasts. A shorter inbox is not counted through.
-fn crowded(memory: &[u32; 4808], card: Card) -> bool
+fn crowded(memory: &[u32; 1364], card: Card) -> bool
     requires { ⌜ card .0 < 8 ⌝ }
     ensures { λ r. ⌜ r ≡ leb 32 (broadcastsOf (now (memory .entry)) (card .0)) ⌝ }
 {
@@ -131,7 +131,7 @@ fn crowded(memory: &[u32; 4808], card: Card) -> bool
 }
 
 // A broadcast and its number reach a card, a destination: it joins the inbox, and then what waited for it.
-fn arrive(memory: &mut [u32; 4808], card: Card, number: BroadcastNumber, broadcast: Letter)
+fn arrive(memory: &mut [u32; 1364], card: Card, number: BroadcastNumber, broadcast: Packet)
     requires { ⌜ card .0 < 8 ⌝ }
     ensures { λ _. ⌜ now (memory .exit) ≡ arrived (now (memory .entry)) (card .0) (number .0) broadcast ⌝ }
 {
@@ -139,14 +139,14 @@ fn arrive(memory: &mut [u32; 4808], card: Card, number: BroadcastNumber, broadca
     release(memory, card, number);
 }
 
-// A card takes broadcast n, whose letter is `letter`.
-fn join(memory: &mut [u32; 4808], card: Card, n: BroadcastNumber, letter: Letter, there: bool)
+// A card takes broadcast n, whose packet is `packet`.
+fn join(memory: &mut [u32; 1364], card: Card, n: BroadcastNumber, packet: Packet, there: bool)
     requires { ⌜ card .0 < 8 ⌝ }
-    ensures { λ _. ⌜ now (memory .exit) ≡ joined (now (memory .entry)) (card .0) (n .0) letter there ⌝ }
+    ensures { λ _. ⌜ now (memory .exit) ≡ joined (now (memory .entry)) (card .0) (n .0) packet there ⌝ }
 {
     set_taken(memory, card, n);
     if there {
-        arrive(memory, card, n, letter);
+        arrive(memory, card, n, packet);
         return;
     }
     release(memory, card, n);
@@ -161,7 +161,7 @@ fn after(x: BroadcastNumber, y: BroadcastNumber) -> BroadcastNumber
 }
 
 // Whether a card's inbox has room for broadcast n and what it releases.
-fn room(memory: &[u32; 4808], card: Card, n: BroadcastNumber, there: bool) -> Answer
+fn room(memory: &[u32; 1364], card: Card, n: BroadcastNumber, there: bool) -> Answer
     requires { ⌜ card .0 < 8 ⌝ }
     ensures { λ r. ⌜ r ≡ roomAnswer (now (memory .entry)) (card .0) (n .0) there ⌝ }
 {
@@ -176,23 +176,24 @@ fn room(memory: &[u32; 4808], card: Card, n: BroadcastNumber, there: bool) -> An
 }
 
 // A card takes broadcast n, where there is room.
-fn take_next(memory: &mut [u32; 4808], card: Card, n: BroadcastNumber) -> Answer
+fn take_next(memory: &mut [u32; 1364], card: Card, n: BroadcastNumber) -> Answer
     requires { ⌜ card .0 < 8 ⌝ }
     ensures memory { λ _. ⌜ now (memory .exit) ≡ nextMemory (now (memory .entry)) (card .0) (n .0) ⌝ }
     ensures answer { λ r. ⌜ r ≡ nextAnswer (now (memory .entry)) (card .0) (n .0) ⌝ }
 {
-    let letter = load(memory, broadcast_block(n));
-    let there = names::member(letter.to, card);
+    let block = broadcast_block(n);
+    let packet = load(memory, block);
+    let there = names::member(to_at(memory, block), card);
     let answer = room(memory, card, n, there);
     if done(answer) {
-        join(memory, card, n, letter, there);
+        join(memory, card, n, packet, there);
         return answer;
     }
     answer
 }
 
 // Step 7: the card takes the next broadcast.
-pub fn take_broadcast(memory: &mut [u32; 4808], card: Card) -> Answer
+pub fn take_broadcast(memory: &mut [u32; 1364], card: Card) -> Answer
     ensures memory { λ _. ⌜ now (memory .exit) ≡ takeMemory (now (memory .entry)) card ⌝ }
     ensures answer { λ r. ⌜ r ≡ takeAnswer (now (memory .entry)) card ⌝ }
 {

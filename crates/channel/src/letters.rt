@@ -1,54 +1,69 @@
-// Letters in the blocks of the memory, and what of a letter is past its limit.
+// Packets in the memory, and what of a letter is past its limit.
 ghost use mathlib.Core.Path.{_≡_};
 ghost use Prim.Native.Nat.{_<_, _≤_};
-ghost use Rattle.names.specs.Letters.{letterAt, kindAt, tagAt, stored};
-ghost use Rattle.channel.specs.Letters.{addressed, fits};
+ghost use Rattle.names.specs.Letters.{packetAt, letterAt, kindAt, tagAt, stored, marked};
+ghost use Rattle.channel.specs.Letters.{addressed, fits, wordFits};
 use super::layout::cards;
 use super::layout::registers;
 use super::layout::tasks;
+use crate::Limits;
 use names::BroadcastNumber;
 use names::Letter;
+use names::Packet;
 
-// The kind, the destinations and the tag in a block.
-pub(crate) fn kind_at(memory: &[u32; 4808], block: usize) -> u32
-    requires { ⌜ block < 601 ⌝ }
+// The kind, the destinations and the tag at a place.
+pub(crate) fn kind_at(memory: &[u32; 1364], block: usize) -> u32
+    requires { ⌜ block < 1363 ⌝ }
     ensures { λ r. ⌜ r ≡ kindAt (now (memory .entry)) block ⌝ }
 {
-    memory[block * 8]
+    names::letters::kind_in(memory[block])
 }
 
-pub(crate) fn to_at(memory: &[u32; 4808], block: usize) -> u32
-    requires { ⌜ block < 601 ⌝ }
+pub(crate) fn to_at(memory: &[u32; 1364], block: usize) -> u32
+    requires { ⌜ block < 1363 ⌝ }
     ensures { λ r. ⌜ r ≡ letterAt (now (memory .entry)) block .to ⌝ }
 {
-    memory[block * 8 + 6]
+    names::letters::to_in(memory[block])
 }
 
-pub(crate) fn tag_at(memory: &[u32; 4808], block: usize) -> BroadcastNumber
-    requires { ⌜ block < 601 ⌝ }
+pub(crate) fn tag_at(memory: &[u32; 1364], block: usize) -> BroadcastNumber
+    requires { ⌜ block < 1362 ⌝ }
     ensures { λ r. ⌜ r .0 ≡ tagAt (now (memory .entry)) block ⌝ }
 {
-    BroadcastNumber(memory[block * 8 + 7])
+    BroadcastNumber(memory[block + 2])
 }
 
-// The letter in a block.
-pub(crate) fn load(memory: &[u32; 4808], block: usize) -> Letter
-    requires { ⌜ block < 601 ⌝ }
-    ensures { λ r. ⌜ r ≡ letterAt (now (memory .entry)) block ⌝ }
+// The packet at a place.
+pub(crate) fn load(memory: &[u32; 1364], block: usize) -> Packet
+    requires { ⌜ block < 1363 ⌝ }
+    ensures { λ r. ⌜ r ≡ packetAt (now (memory .entry)) block ⌝ }
 {
-    names::letters::load(memory, block)
+    Packet {
+        word: memory[block],
+        value: memory[block + 1],
+    }
 }
 
-// A letter and a tag into a block.
-pub(crate) fn store(memory: &mut [u32; 4808], block: usize, letter: Letter, tag: BroadcastNumber)
-    requires { ⌜ block < 601 ⌝ }
-    ensures { λ _. ⌜ now (memory .exit) ≡ stored (now (memory .entry)) block letter (tag .0) ⌝ }
+// A packet to a place.
+pub(crate) fn store(memory: &mut [u32; 1364], block: usize, packet: Packet)
+    requires { ⌜ block < 1363 ⌝ }
+    ensures { λ _. ⌜ now (memory .exit) ≡ stored (now (memory .entry)) block packet ⌝ }
 {
-    names::letters::store(memory, block, letter, tag);
+    memory[block] = packet.word;
+    memory[block + 1] = packet.value;
+}
+
+// A packet and its tag to a place.
+pub(crate) fn mark(memory: &mut [u32; 1364], block: usize, packet: Packet, tag: BroadcastNumber)
+    requires { ⌜ block < 1362 ⌝ }
+    ensures { λ _. ⌜ now (memory .exit) ≡ marked (now (memory .entry)) block packet (tag .0) ⌝ }
+{
+    store(memory, block, packet);
+    memory[block + 2] = tag.0;
 }
 
 // Whether there is a destination and each is a present card.
-fn addressed(memory: &[u32; 4808], to: u32) -> bool
+fn addressed(memory: &[u32; 1364], to: u32) -> bool
     ensures { λ r. ⌜ r ≡ addressed (now (memory .entry)) to ⌝ }
 {
     if to < 1 {
@@ -58,14 +73,24 @@ fn addressed(memory: &[u32; 4808], to: u32) -> bool
 }
 
 // Whether no field of a letter is past its limit.
-pub fn fits(memory: &[u32; 4808], letter: Letter) -> bool
+pub(crate) fn fits(memory: &[u32; 1364], letter: Letter) -> bool
     ensures { λ r. ⌜ r ≡ fits (now (memory .entry)) letter ⌝ }
 {
     let message = letter.message;
     let body = message.body;
     let placed = (message.task.0 < tasks(memory)) & (message.register.0 < registers(memory));
-    placed
-        & names::letters::known(body)
-        & (letter.from.0 < cards(memory))
-        & addressed(memory, letter.to)
+    placed & names::letters::known(body) & addressed(memory, letter.to)
+}
+
+// Whether a packet's first word is of a message with no field past its limit.
+pub fn word_fits(limits: Limits, word: u32) -> bool
+    ensures { λ r. ⌜ r ≡ wordFits limits word ⌝ }
+{
+    let kind = names::letters::kind_in(word);
+    let task = names::letters::task_in(word);
+    let register = names::letters::register_in(word);
+    let to = names::letters::to_in(word);
+    let named = (task.0 < limits.tasks) & (register.0 < limits.registers);
+    let known = names::letters::function_fits(kind, names::letters::function_in(word));
+    (1 <= kind) & (kind <= 4) & named & known & (1 <= to) & (to < limits.sets)
 }

@@ -16,11 +16,12 @@ pub use inbox::head;
 pub use inbox::receive;
 pub use layout::begin;
 pub use layout::cards;
+pub use layout::limits_of;
 pub use layout::made;
 pub use layout::registers;
 pub use layout::taken;
 pub use layout::tasks;
-pub use letters::fits;
+pub use letters::word_fits;
 pub use send::dispatch;
 pub use single::take_single;
 pub use sized::well_sized;
@@ -36,6 +37,15 @@ pub enum Answer {
     NoneInFlight,
     FarBehind,
     Crowded,
+}
+
+// What the numbers in a state are below (RULES 8.6 d to f): cards, sets of present cards, tasks, registers. A check of a whole state reads
+// them once.
+pub struct Limits {
+    pub cards: u32,
+    pub sets: u32,
+    pub tasks: u32,
+    pub registers: u32,
 }
 
 // What receiving finds; `receivedNumber` gives the number of each (RULES 8.2).

@@ -9,6 +9,7 @@ use super::layout::flight_block;
 use super::layout::made;
 use super::layout::taken_of;
 use super::letters::fits;
+use super::letters::mark;
 use super::letters::store;
 use super::single::no_flight;
 use crate::Answer;
@@ -19,7 +20,7 @@ use names::Message;
 use names::wide;
 
 // Whether one broadcast more leaves a card at most 64 behind.
-fn near_at(memory: &[u32; 4808], card: Card) -> bool
+fn near_at(memory: &[u32; 1364], card: Card) -> bool
     requires { ⌜ card .0 < 8 ⌝ }
     ensures { λ r. ⌜ r ≡ nearAt (now (memory .entry)) (card .0) ⌝ }
 {
@@ -29,7 +30,7 @@ fn near_at(memory: &[u32; 4808], card: Card) -> bool
 }
 
 // Whether one broadcast more leaves every card at most 64 behind.
-fn near(memory: &[u32; 4808]) -> bool
+fn near(memory: &[u32; 1364]) -> bool
     ensures { λ r. ⌜ r ≡ near (now (memory .entry)) ⌝ }
 {
     let n = cards(memory);
@@ -44,7 +45,7 @@ fn near(memory: &[u32; 4808]) -> bool
 }
 
 // A letter to more cards than one becomes the next broadcast.
-fn cast(memory: &mut [u32; 4808], letter: Letter) -> Answer
+fn cast(memory: &mut [u32; 1364], letter: Letter) -> Answer
     ensures memory { λ _. ⌜ now (memory .exit) ≡ castMemory (now (memory .entry)) letter ⌝ }
     ensures answer { λ r. ⌜ r ≡ castAnswer (now (memory .entry)) letter ⌝ }
 {
@@ -59,13 +60,17 @@ fn cast(memory: &mut [u32; 4808], letter: Letter) -> Answer
         return Answer::IllSized;
     }
     let next = BroadcastNumber(last.0 + 1);
-    store(memory, broadcast_block(next), letter, next);
+    store(
+        memory,
+        broadcast_block(next),
+        names::letters::packet_of(letter),
+    );
     memory[MADE] = next.0;
     Answer::Done
 }
 
 // A letter to one card is in flight, tagged with the number of broadcasts that the card, which sends it, has taken.
-fn fly(memory: &mut [u32; 4808], card: Card, letter: Letter) -> Answer
+fn fly(memory: &mut [u32; 1364], card: Card, letter: Letter) -> Answer
     requires { ⌜ card .0 < 8 ⌝ }
     ensures memory { λ _. ⌜ now (memory .exit) ≡ flyMemory (now (memory .entry)) (card .0) letter ⌝ }
     ensures answer { λ r. ⌜ r ≡ flyAnswer (now (memory .entry)) letter ⌝ }
@@ -79,12 +84,17 @@ fn fly(memory: &mut [u32; 4808], card: Card, letter: Letter) -> Answer
         return Answer::IllSized;
     }
     let tag = taken_of(memory, card);
-    store(memory, flight_block(task), letter, tag);
+    mark(
+        memory,
+        flight_block(task),
+        names::letters::packet_of(letter),
+        tag,
+    );
     Answer::Done
 }
 
 // Step 6, the channel's part: the message goes to its destinations.
-pub fn dispatch(memory: &mut [u32; 4808], card: Card, message: Message, destinations: u32) -> Answer
+pub fn dispatch(memory: &mut [u32; 1364], card: Card, message: Message, destinations: u32) -> Answer
     ensures memory { λ _. ⌜ now (memory .exit) ≡ dispatchMemory (now (memory .entry)) card message destinations ⌝ }
     ensures answer { λ r. ⌜ r ≡ dispatchAnswer (now (memory .entry)) card message destinations ⌝ }
 {
@@ -93,7 +103,6 @@ pub fn dispatch(memory: &mut [u32; 4808], card: Card, message: Message, destinat
     }
     let letter = Letter {
         message: message,
-        from: card,
         to: destinations,
     };
     if names::several(destinations) {

@@ -16,16 +16,17 @@ use super::layout::taken_of;
 use super::layout::tasks;
 use super::letters::kind_at;
 use super::letters::load;
-use super::letters::store;
+use super::letters::mark;
 use super::letters::tag_at;
+use super::letters::to_at;
 use crate::Answer;
 use names::BroadcastNumber;
 use names::Card;
-use names::Letter;
+use names::Packet;
 use names::Task;
 
 // Whether a task has nothing in flight.
-pub(crate) fn no_flight(memory: &[u32; 4808], task: Task) -> bool
+pub(crate) fn no_flight(memory: &[u32; 1364], task: Task) -> bool
     requires { ⌜ task .0 < 16 ⌝ }
     ensures { λ r. ⌜ r ≡ noFlight (now (memory .entry)) (task .0) ⌝ }
 {
@@ -41,49 +42,49 @@ fn destination(to: u32) -> Card
 }
 
 // Whether a message with this tag joins a card's inbox, and is not held.
-fn joins_at(memory: &[u32; 4808], card: Card, tag: BroadcastNumber) -> bool
+fn joins_at(memory: &[u32; 1364], card: Card, tag: BroadcastNumber) -> bool
     requires { ⌜ card .0 < 8 ⌝ }
     ensures { λ r. ⌜ r ≡ joinsAt (now (memory .entry)) (card .0) (tag .0) ⌝ }
 {
     tag.0 <= taken_of(memory, card).0
 }
 
-// One letter more among those held for a card; nothing changes where there is no room.
-fn hold(memory: &mut [u32; 4808], card: Card, letter: Letter, tag: BroadcastNumber)
+// One packet more among those held for a card; nothing changes where there is no room.
+fn hold(memory: &mut [u32; 1364], card: Card, packet: Packet, tag: BroadcastNumber)
     requires { ⌜ card .0 < 8 ⌝ }
-    ensures { λ _. ⌜ now (memory .exit) ≡ heldMore (now (memory .entry)) (card .0) letter (tag .0) ⌝ }
+    ensures { λ _. ⌜ now (memory .exit) ≡ heldMore (now (memory .entry)) (card .0) packet (tag .0) ⌝ }
 {
     let held = held_of(memory, card);
     if 16 <= held {
         return;
     }
-    store(memory, held_block(card, held as usize), letter, tag);
+    mark(memory, held_block(card, held as usize), packet, tag);
     set_held(memory, card, held + 1);
 }
 
 // A task's message in flight reaches a card, where it joins the inbox or is held.
 fn land(
-    memory: &mut [u32; 4808],
+    memory: &mut [u32; 1364],
     task: Task,
     card: Card,
-    letter: Letter,
+    packet: Packet,
     tag: BroadcastNumber,
     joins: bool,
 )
     requires { ⌜ (task .0 < 16) × (card .0 < 8) ⌝ }
-    ensures { λ _. ⌜ now (memory .exit) ≡ landed (now (memory .entry)) (task .0) (card .0) letter (tag .0) joins ⌝ }
+    ensures { λ _. ⌜ now (memory .exit) ≡ landed (now (memory .entry)) (task .0) (card .0) packet (tag .0) joins ⌝ }
 {
-    let at = flight_block(task) * 8;
+    let at = flight_block(task);
     memory[at] = 0;
     if joins {
-        push(memory, card, letter);
+        push(memory, card, packet);
         return;
     }
-    hold(memory, card, letter, tag);
+    hold(memory, card, packet, tag);
 }
 
 // Whether a card has room for a message that joins its inbox, or is held.
-fn may_land(memory: &[u32; 4808], card: Card, joins: bool) -> Answer
+fn may_land(memory: &[u32; 1364], card: Card, joins: bool) -> Answer
     requires { ⌜ card .0 < 8 ⌝ }
     ensures { λ r. ⌜ r ≡ landAnswer (now (memory .entry)) (card .0) joins ⌝ }
 {
@@ -94,29 +95,30 @@ fn may_land(memory: &[u32; 4808], card: Card, joins: bool) -> Answer
 }
 
 // A task's message in flight reaches its destination, where there is room.
-fn reach(memory: &mut [u32; 4808], task: Task) -> Answer
+fn reach(memory: &mut [u32; 1364], task: Task) -> Answer
     requires { ⌜ task .0 < 16 ⌝ }
     ensures memory { λ _. ⌜ now (memory .exit) ≡ reachMemory (now (memory .entry)) (task .0) ⌝ }
     ensures answer { λ r. ⌜ r ≡ reachAnswer (now (memory .entry)) (task .0) ⌝ }
 {
     let block = flight_block(task);
-    let letter = load(memory, block);
-    if !names::single(letter.to) {
+    let packet = load(memory, block);
+    let to = to_at(memory, block);
+    if !names::single(to) {
         return Answer::IllSized;
     }
     let tag = tag_at(memory, block);
-    let card = destination(letter.to);
+    let card = destination(to);
     let joins = joins_at(memory, card, tag);
     let answer = may_land(memory, card, joins);
     if done(answer) {
-        land(memory, task, card, letter, tag, joins);
+        land(memory, task, card, packet, tag, joins);
         return answer;
     }
     answer
 }
 
 // Step 8: the task's message in flight reaches its destination.
-pub fn take_single(memory: &mut [u32; 4808], task: Task) -> Answer
+pub fn take_single(memory: &mut [u32; 1364], task: Task) -> Answer
     ensures memory { λ _. ⌜ now (memory .exit) ≡ singleMemory (now (memory .entry)) task ⌝ }
     ensures answer { λ r. ⌜ r ≡ singleAnswer (now (memory .entry)) task ⌝ }
 {

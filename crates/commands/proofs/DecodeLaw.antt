@@ -14,31 +14,25 @@ use Rattle.lists.specs.Tests.{and-false, past}
 use Rattle.names.specs.Placement.{Placement, tasks, registers}
 use Rattle.names.specs.Update.{knownFunction}
 use Rattle.claims.specs.Command.{request-read, request-update, perform, send-read, send-update, dispatch, takeBroadcast, takeSingle, deliver, report}
-use Rattle.claims.specs.Command as K
 use Rattle.claims.specs.Steps.{bad, good, need, zeros, namesTask, namesCard, namesRegister, namesChosen, namesFunction, operand, unnamedZero, known, commandOf, taskThere, registerThere, cardThere, functionThere, decode}
 use Rattle.claims.specs.Steps as S
 use Rattle.commands.specs.declared.Command.{Command}
-use Rattle.commands.specs.declared.Command.the-variants.{RequestRead, RequestUpdate, Perform, SendRead, SendUpdate, Dispatch, TakeBroadcast, TakeSingle, Deliver, Report}
-use Rattle.commands.specs.declared.Decoded.{Decoded}
-use Rattle.commands.specs.declared.Decoded.the-variants.{Good, Bad}
+use Rattle.commands.specs.declared.Command.the-variants.{RequestRead, RequestUpdate, Perform, SendRead, SendUpdate, Dispatch, TakeBroadcast, TakeSingle, Deliver, Report, Refused}
 use Rattle.commands.specs.Decode.{taskIn, cardIn, registerIn, chosenIn, functionIn, operandIn, restZero, decided, aloneNumber, taskNumber, cardNumber, pairNumber, readNumber, chosenNumber, updateNumber, decodeOf}
 
 -- the command, as it is on paper
-abbrev pub commandShown : Command → K.Command
-commandShown (RequestRead t x) = request-read (t .0) (x .0)
-commandShown (RequestUpdate t x f w) = request-update (t .0) (x .0) f w
-commandShown (Perform t) = perform (t .0)
-commandShown (SendRead t j) = send-read (t .0) (j .0)
-commandShown (SendUpdate t) = send-update (t .0)
-commandShown (Dispatch i) = dispatch (i .0)
-commandShown (TakeBroadcast i) = takeBroadcast (i .0)
-commandShown (TakeSingle t) = takeSingle (t .0)
-commandShown (Deliver i) = deliver (i .0)
-commandShown (Report t) = report (t .0)
-
-abbrev pub decodedShown : Decoded → S.Decoded
-decodedShown (Good c) = good (commandShown c)
-decodedShown (Bad n) = bad n
+abbrev pub commandShown : Command → S.Decoded
+commandShown (RequestRead t x) = good (request-read (t .0) (x .0))
+commandShown (RequestUpdate t x f w) = good (request-update (t .0) (x .0) f w)
+commandShown (Perform t) = good (perform (t .0))
+commandShown (SendRead t j) = good (send-read (t .0) (j .0))
+commandShown (SendUpdate t) = good (send-update (t .0))
+commandShown (Dispatch i) = good (dispatch (i .0))
+commandShown (TakeBroadcast i) = good (takeBroadcast (i .0))
+commandShown (TakeSingle t) = good (takeSingle (t .0))
+commandShown (Deliver i) = good (deliver (i .0))
+commandShown (Report t) = good (report (t .0))
+commandShown (Refused n) = bad n
 
 -- ---- tests in another order
 
@@ -64,21 +58,21 @@ alone-is a = go (eqb (getD a 1 0) 0)
 
 -- ---- the tests of each kind of step
 
-two : (m : ℕ) (p b c : Bool) (C : Command) → m ≢ 0 → decodedShown (decided (cond p (cond b (cond c 0 m) 11) 11) C) ≡ need (p && b) 11 (need c m (good (commandShown C)))
+two : (m : ℕ) (p b c : Bool) (C : Command) → m ≢ 0 → commandShown (decided (cond p (cond b (cond c 0 m) 11) 11) C) ≡ need (p && b) 11 (need c m (commandShown C))
 unfolding decided
 two m true true true C h = refl
 two m true true false C h = rw (ne-eqb m 0 h)
 two m true false c C h = refl
 two m false b c C h = refl
 
-three : (m : ℕ) (b c d : Bool) (C : Command) → m ≢ 0 → decodedShown (decided (cond b (cond c (cond d 0 m) 12) 11) C) ≡ need b 11 (need c 12 (need d m (good (commandShown C))))
+three : (m : ℕ) (b c d : Bool) (C : Command) → m ≢ 0 → commandShown (decided (cond b (cond c (cond d 0 m) 12) 11) C) ≡ need b 11 (need c 12 (need d m (commandShown C)))
 unfolding decided
 three m true true true C h = refl
 three m true true false C h = rw (ne-eqb m 0 h)
 three m true false d C h = refl
 three m false c d C h = refl
 
-four : (b c d e : Bool) (C : Command) → decodedShown (decided (cond b (cond c (cond d (cond e 0 15) 13) 12) 11) C) ≡ need b 11 (need c 12 (need d 13 (need e 15 (good (commandShown C)))))
+four : (b c d e : Bool) (C : Command) → commandShown (decided (cond b (cond c (cond d (cond e 0 15) 13) 12) 11) C) ≡ need b 11 (need c 12 (need d 13 (need e 15 (commandShown C))))
 unfolding decided
 four true true true true C = refl
 four true true true false C = refl
@@ -92,15 +86,15 @@ and-true false = refl
 
 module _ (P : Placement) (a : List ℕ) where
   abbrev at : ℕ → Type 0
-  at n = decodedShown (decodeOf n a (P .cards) (registers P) (tasks P)) ≡ decode P (record { code = n; argument = a })
+  at n = commandShown (decodeOf n a (P .cards) (registers P) (tasks P)) ≡ decode P (record { code = n; argument = a })
 
-  task-alone : (C : Command) → decodedShown (decided (taskNumber a (tasks P)) C)
-      ≡ need (eqb (getD a 1 0) 0 && zeros a (2 ∷ 4 ∷ 5 ∷ 6 ∷ 7 ∷ []) && eqb (getD a 3 0) 0) 11 (need (ltb (getD a 0 0) (tasks P)) 12 (good (commandShown C)))
+  task-alone : (C : Command) → commandShown (decided (taskNumber a (tasks P)) C)
+      ≡ need (eqb (getD a 1 0) 0 && zeros a (2 ∷ 4 ∷ 5 ∷ 6 ∷ 7 ∷ []) && eqb (getD a 3 0) 0) 11 (need (ltb (getD a 0 0) (tasks P)) 12 (commandShown C))
   unfolding aloneNumber
   task-alone C = rw (alone-is a) (two 12 (eqb (getD a 1 0) 0) (restZero a) (ltb (getD a 0 0) (tasks P)) C (omega arith))
 
-  card-alone : (C : Command) → decodedShown (decided (cardNumber a (P .cards)) C)
-      ≡ need (eqb (getD a 1 0) 0 && zeros a (2 ∷ 4 ∷ 5 ∷ 6 ∷ 7 ∷ []) && eqb (getD a 3 0) 0) 11 (need (ltb (getD a 0 0) (P .cards) && true) 14 (good (commandShown C)))
+  card-alone : (C : Command) → commandShown (decided (cardNumber a (P .cards)) C)
+      ≡ need (eqb (getD a 1 0) 0 && zeros a (2 ∷ 4 ∷ 5 ∷ 6 ∷ 7 ∷ []) && eqb (getD a 3 0) 0) 11 (need (ltb (getD a 0 0) (P .cards) && true) 14 (commandShown C))
   unfolding aloneNumber
   card-alone C = rw (alone-is a, and-true (ltb (getD a 0 0) (P .cards))) (two 14 (eqb (getD a 1 0) 0) (restZero a) (ltb (getD a 0 0) (P .cards)) C (omega arith))
 
@@ -185,38 +179,38 @@ module _ (P : Placement) (a : List ℕ) where
 -- ---- what a decoded step names is in range
 
 module _ (cards registers tasks : ℕ) where
-  abbrev pub InRange : Decoded → Type 0
-  InRange (Good (RequestRead t x)) = (t .0 < tasks) × (x .0 < registers)
-  InRange (Good (RequestUpdate t x f w)) = (t .0 < tasks) × (x .0 < registers) × (knownFunction f ≡ true)
-  InRange (Good (Perform t)) = t .0 < tasks
-  InRange (Good (SendRead t j)) = (t .0 < tasks) × (j .0 < cards)
-  InRange (Good (SendUpdate t)) = t .0 < tasks
-  InRange (Good (Dispatch i)) = i .0 < cards
-  InRange (Good (TakeBroadcast i)) = i .0 < cards
-  InRange (Good (TakeSingle t)) = t .0 < tasks
-  InRange (Good (Deliver i)) = i .0 < cards
-  InRange (Good (Report t)) = t .0 < tasks
-  InRange (Bad n) = n ≢ 0
+  abbrev pub InRange : Command → Type 0
+  InRange (RequestRead t x) = (t .0 < tasks) × (x .0 < registers)
+  InRange (RequestUpdate t x f w) = (t .0 < tasks) × (x .0 < registers) × (knownFunction f ≡ true)
+  InRange (Perform t) = t .0 < tasks
+  InRange (SendRead t j) = (t .0 < tasks) × (j .0 < cards)
+  InRange (SendUpdate t) = t .0 < tasks
+  InRange (Dispatch i) = i .0 < cards
+  InRange (TakeBroadcast i) = i .0 < cards
+  InRange (TakeSingle t) = t .0 < tasks
+  InRange (Deliver i) = i .0 < cards
+  InRange (Report t) = t .0 < tasks
+  InRange (Refused n) = n ≢ 0
 
-  either : (b : Bool) (d e : Decoded) → InRange d → InRange e → InRange (cond b d e)
+  either : (b : Bool) (d e : Command) → InRange d → InRange e → InRange (cond b d e)
   either true d e x y = x
   either false d e x y = y
 
-  range-two : (m : ℕ) (p b c : Bool) (C : Command) → m ≢ 0 → (c ≡ true → InRange (Good C)) → InRange (decided (cond p (cond b (cond c 0 m) 11) 11) C)
+  range-two : (m : ℕ) (p b c : Bool) (C : Command) → m ≢ 0 → (c ≡ true → InRange C) → InRange (decided (cond p (cond b (cond c 0 m) 11) 11) C)
   unfolding decided
   range-two m true true true C h f = f refl
   range-two m true true false C h f = rw (ne-eqb m 0 h) h
   range-two m true false c C h f = λ e. absurd (omega arith)
   range-two m false b c C h f = λ e. absurd (omega arith)
 
-  range-three : (m : ℕ) (b c d : Bool) (C : Command) → m ≢ 0 → (c ≡ true → d ≡ true → InRange (Good C)) → InRange (decided (cond b (cond c (cond d 0 m) 12) 11) C)
+  range-three : (m : ℕ) (b c d : Bool) (C : Command) → m ≢ 0 → (c ≡ true → d ≡ true → InRange C) → InRange (decided (cond b (cond c (cond d 0 m) 12) 11) C)
   unfolding decided
   range-three m true true true C h f = f refl refl
   range-three m true true false C h f = rw (ne-eqb m 0 h) h
   range-three m true false d C h f = λ e. absurd (omega arith)
   range-three m false c d C h f = λ e. absurd (omega arith)
 
-  range-four : (b c d e : Bool) (C : Command) → (c ≡ true → d ≡ true → e ≡ true → InRange (Good C)) → InRange (decided (cond b (cond c (cond d (cond e 0 15) 13) 12) 11) C)
+  range-four : (b c d e : Bool) (C : Command) → (c ≡ true → d ≡ true → e ≡ true → InRange C) → InRange (decided (cond b (cond c (cond d (cond e 0 15) 13) 12) 11) C)
   unfolding decided
   range-four true true true true C f = f refl refl refl
   range-four true true true false C f = λ q. absurd (omega arith)
@@ -224,11 +218,11 @@ module _ (cards registers tasks : ℕ) where
   range-four true false d e C f = λ q. absurd (omega arith)
   range-four false c d e C f = λ q. absurd (omega arith)
 
-  task-range : (a : List ℕ) (C : Command) → (getD a 0 0 < tasks → InRange (Good C)) → InRange (decided (taskNumber a tasks) C)
+  task-range : (a : List ℕ) (C : Command) → (getD a 0 0 < tasks → InRange C) → InRange (decided (taskNumber a tasks) C)
   unfolding aloneNumber
   task-range a C f = range-two 12 (eqb (getD a 1 0) 0) (restZero a) (ltb (getD a 0 0) tasks) C (omega arith) (λ e. f (ltb-true _ _ e))
 
-  card-range : (a : List ℕ) (C : Command) → (getD a 0 0 < cards → InRange (Good C)) → InRange (decided (cardNumber a cards) C)
+  card-range : (a : List ℕ) (C : Command) → (getD a 0 0 < cards → InRange C) → InRange (decided (cardNumber a cards) C)
   unfolding aloneNumber
   card-range a C f = range-two 14 (eqb (getD a 1 0) 0) (restZero a) (ltb (getD a 0 0) cards) C (omega arith) (λ e. f (ltb-true _ _ e))
 

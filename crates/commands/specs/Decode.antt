@@ -10,9 +10,7 @@ use Rattle.names.specs.declared.Task.{Task}
 use Rattle.names.specs.declared.Register.{Register}
 use Rattle.names.specs.Update.{knownFunction}
 use Rattle.commands.specs.declared.Command.{Command}
-use Rattle.commands.specs.declared.Command.the-variants.{RequestRead, RequestUpdate, Perform, SendRead, SendUpdate, Dispatch, TakeBroadcast, TakeSingle, Deliver, Report}
-use Rattle.commands.specs.declared.Decoded.{Decoded}
-use Rattle.commands.specs.declared.Decoded.the-variants.{Good, Bad}
+use Rattle.commands.specs.declared.Command.the-variants.{RequestRead, RequestUpdate, Perform, SendRead, SendUpdate, Dispatch, TakeBroadcast, TakeSingle, Deliver, Report, Refused}
 
 -- byte k
 abbrev pub byteOf : List ℕ → ℕ → ℕ
@@ -42,8 +40,8 @@ unfoldable pub restZero : List ℕ → Bool
 restZero a = eqb (byteOf a 2) 0 && eqb (byteOf a 3) 0 && eqb (byteOf a 4) 0 && eqb (byteOf a 5) 0 && eqb (byteOf a 6) 0 && eqb (byteOf a 7) 0
 
 -- the command where the number is 0, else the refusal
-unfoldable pub decided : ℕ → Command → Decoded
-decided n c = cond (eqb n 0) (Good c) (Bad n)
+unfoldable pub decided : ℕ → Command → Command
+decided n c = cond (eqb n 0) c (Refused n)
 
 -- 11: a byte that is not named is not zero; 12 task, 13 register, 14 card absent; 15: the function is not 1 to 5
 
@@ -81,7 +79,7 @@ updateNumber a registers tasks =
     11
 
 -- 10: the code is not 1 to 10
-unfoldable pub decodeOf : ℕ → List ℕ → ℕ → ℕ → ℕ → Decoded
+unfoldable pub decodeOf : ℕ → List ℕ → ℕ → ℕ → ℕ → Command
 decodeOf code a cards registers tasks =
     cond (eqb code 1) (decided (readNumber a registers tasks) (RequestRead (taskIn a) (registerIn a)))
     (cond (eqb code 2) (decided (updateNumber a registers tasks) (RequestUpdate (taskIn a) (registerIn a) (functionIn a) (operandIn a)))
@@ -93,4 +91,4 @@ decodeOf code a cards registers tasks =
     (cond (eqb code 8) (decided (taskNumber a tasks) (TakeSingle (taskIn a)))
     (cond (eqb code 9) (decided (cardNumber a cards) (Deliver (cardIn a)))
     (cond (eqb code 10) (decided (taskNumber a tasks) (Report (taskIn a)))
-    (Bad 10))))))))))
+    (Refused 10))))))))))

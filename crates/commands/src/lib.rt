@@ -7,7 +7,8 @@ mod steps;
 
 pub use steps::decode;
 
-// The ten steps, decoded.
+// What a code and its argument are: one of the ten steps, decoded, or refused with a number from 10 to 15. One enum and not two, so that
+// the code is looked at once.
 pub enum Command {
     RequestRead(Task, Register),
     // function and operand
@@ -21,10 +22,5 @@ pub enum Command {
     TakeSingle(Task),
     Deliver(Card),
     Report(Task),
-}
-
-// What a code and its argument are: a command, or refused with a number from 10 to 15.
-pub enum Decoded {
-    Good(Command),
-    Bad(u8),
+    Refused(u8),
 }

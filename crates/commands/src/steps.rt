@@ -5,7 +5,6 @@ ghost use lib.ListN.{getD};
 ghost use Rattle.commands.specs.Decode.{byteOf, taskIn, cardIn, registerIn, chosenIn, functionIn, operandIn, restZero, decided, aloneNumber, pairNumber, readNumber, chosenNumber, updateNumber, decodeOf};
 ghost use Rattle.commands.specs.declared.Command.the-variants.{RequestRead, RequestUpdate, SendRead};
 use crate::Command;
-use crate::Decoded;
 use names::Card;
 use names::Register;
 use names::Task;
@@ -40,13 +39,13 @@ fn rest_zero(argument: [u8; 8]) -> bool
 }
 
 // The command where the number is 0, else the refusal.
-fn decided(number: u8, command: Command) -> Decoded
+fn decided(number: u8, command: Command) -> Command
     ensures { λ r. ⌜ r ≡ decided number command ⌝ }
 {
     if number == 0 {
-        return Decoded::Good(command);
+        return command;
     }
-    Decoded::Bad(number)
+    Command::Refused(number)
 }
 
 // 0, or the refusal of an argument that names in byte 0 alone one of so many: 11, then the number of what it names.
@@ -100,7 +99,7 @@ fn update_number(argument: [u8; 8], registers: u32, tasks: u32) -> u8
     0
 }
 
-fn request_read(argument: [u8; 8], registers: u32, tasks: u32) -> Decoded
+fn request_read(argument: [u8; 8], registers: u32, tasks: u32) -> Command
     ensures { λ r. ⌜ r ≡ decided (readNumber argument registers tasks) (RequestRead (taskIn argument) (registerIn argument)) ⌝ }
 {
     let task = Task(byte(argument, 0));
@@ -111,7 +110,7 @@ fn request_read(argument: [u8; 8], registers: u32, tasks: u32) -> Decoded
     )
 }
 
-fn request_update(argument: [u8; 8], registers: u32, tasks: u32) -> Decoded
+fn request_update(argument: [u8; 8], registers: u32, tasks: u32) -> Command
     ensures { λ r. ⌜ r ≡ decided (updateNumber argument registers tasks) (RequestUpdate (taskIn argument) (registerIn argument) (functionIn argument) (operandIn argument)) ⌝ }
 {
     let task = Task(byte(argument, 0));
@@ -122,7 +121,7 @@ fn request_update(argument: [u8; 8], registers: u32, tasks: u32) -> Decoded
     )
 }
 
-fn send_read(argument: [u8; 8], cards: u32, tasks: u32) -> Decoded
+fn send_read(argument: [u8; 8], cards: u32, tasks: u32) -> Command
     ensures { λ r. ⌜ r ≡ decided (chosenNumber argument cards tasks) (SendRead (taskIn argument) (chosenIn argument)) ⌝ }
 {
     let task = Task(byte(argument, 0));
@@ -146,7 +145,7 @@ fn card_in(argument: [u8; 8]) -> Card
 }
 
 // The command that a code and its argument are, or their refusal.
-pub fn decode(code: u8, argument: [u8; 8], cards: u32, registers: u32, tasks: u32) -> Decoded
+pub fn decode(code: u8, argument: [u8; 8], cards: u32, registers: u32, tasks: u32) -> Command
     ensures { λ r. ⌜ r ≡ decodeOf code argument cards registers tasks ⌝ }
 {
     match code {
@@ -181,6 +180,6 @@ pub fn decode(code: u8, argument: [u8; 8], cards: u32, registers: u32, tasks: u3
             alone_number(argument, tasks, 12),
             Command::Report(task_in(argument)),
         ),
-        0 | 11..=255 => Decoded::Bad(10),
+        0 | 11..=255 => Command::Refused(10),
     }
 }

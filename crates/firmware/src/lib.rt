@@ -23,24 +23,24 @@ use tally::Tally;
 
 #[no_mangle]
 pub extern "C" fn gondzselu_registers_words() -> usize
-    ensures { λ r. ⌜ r ≡ 1544 ⌝ }
+    ensures { λ r. ⌜ r ≡ 593 ⌝ }
 {
-    1544
+    593
 }
 
 #[no_mangle]
 pub extern "C" fn gondzselu_channel_words() -> usize
-    ensures { λ r. ⌜ r ≡ 4808 ⌝ }
+    ensures { λ r. ⌜ r ≡ 1364 ⌝ }
 {
-    4808
+    1364
 }
 
 // The version of what is offered: major * 1,000,000 + minor * 1,000 + patch.
 #[no_mangle]
 pub extern "C" fn gondzselu_version() -> u32
-    ensures { λ r. ⌜ r ≡ 3000 ⌝ }
+    ensures { λ r. ⌜ r ≡ 4000 ⌝ }
 {
-    3000
+    4000
 }
 
 // ---- a whole run
@@ -72,8 +72,8 @@ pub extern "C" fn gondzselu_answer_counted(file: &[u8], out: &mut [u8], tally: &
 // Begins a store: 0, or the placement's refusal (3, 4) and both memories as they were.
 #[no_mangle]
 pub extern "C" fn gondzselu_start(
-    registers: &mut [u32; 1544],
-    channel: &mut [u32; 4808],
+    registers: &mut [u32; 593],
+    channel: &mut [u32; 1364],
     cards: u32,
     homes: &[u8],
     copies: &[u8],
@@ -89,8 +89,8 @@ pub extern "C" fn gondzselu_start(
 // Begins a store from the placement in a run file: 0, or the refusal of the file (1 to 4) and both memories as they were.
 #[no_mangle]
 pub extern "C" fn gondzselu_start_file(
-    registers: &mut [u32; 1544],
-    channel: &mut [u32; 4808],
+    registers: &mut [u32; 593],
+    channel: &mut [u32; 1364],
     file: &[u8],
 ) -> u8
     ensures registers { λ _. ⌜ now (registers .exit) ≡ fileRegisters (now (file .entry)) (now (registers .entry)) ⌝ }
@@ -103,8 +103,8 @@ pub extern "C" fn gondzselu_start_file(
 // One step: its result, 0 where it is taken, and its value.
 #[no_mangle]
 pub extern "C" fn gondzselu_step(
-    registers: &mut [u32; 1544],
-    channel: &mut [u32; 4808],
+    registers: &mut [u32; 593],
+    channel: &mut [u32; 1364],
     code: u8,
     argument: &[u8; 8],
     value: &mut u32,
@@ -144,8 +144,8 @@ fn count_of(result: u8) -> Counts
 }
 
 fn step_counts(
-    registers: &mut [u32; 1544],
-    channel: &mut [u32; 4808],
+    registers: &mut [u32; 593],
+    channel: &mut [u32; 1364],
     code: u8,
     argument: &[u8; 8],
     value: &mut u32,
@@ -162,8 +162,8 @@ fn step_counts(
 // `gondzselu_step`, and the step counted in a lent tally: every refusal counts, 6 too.
 #[no_mangle]
 pub extern "C" fn gondzselu_step_counted(
-    registers: &mut [u32; 1544],
-    channel: &mut [u32; 4808],
+    registers: &mut [u32; 593],
+    channel: &mut [u32; 1364],
     code: u8,
     argument: &[u8; 8],
     value: &mut u32,
@@ -184,8 +184,8 @@ pub extern "C" fn gondzselu_step_counted(
 // memories the same as `gondzselu_step` (store, specs/StepResults, `unchecked`).
 #[no_mangle]
 pub extern "C" fn gondzselu_advance(
-    registers: &mut [u32; 1544],
-    channel: &mut [u32; 4808],
+    registers: &mut [u32; 593],
+    channel: &mut [u32; 1364],
     code: u8,
     argument: &[u8; 8],
     value: &mut u32,
@@ -220,8 +220,8 @@ pub extern "C" fn gondzselu_sentence(step: u32, refusal: u8, out: &mut [u8], len
 // The value of a card's copy of a register; 0 for an absent card or register.
 #[no_mangle]
 pub extern "C" fn gondzselu_copy(
-    registers: &[u32; 1544],
-    channel: &[u32; 4808],
+    registers: &[u32; 593],
+    channel: &[u32; 1364],
     card: u32,
     register: u32,
 ) -> u32
@@ -233,7 +233,7 @@ pub extern "C" fn gondzselu_copy(
 // What a task is doing: 0 quiet, 1 asking for a read, 2 asking for an update, 3 waiting, 4 done with a read, 5 done with an update. An absent
 // task is quiet.
 #[no_mangle]
-pub extern "C" fn gondzselu_task(registers: &[u32; 1544], channel: &[u32; 4808], task: u32) -> u32
+pub extern "C" fn gondzselu_task(registers: &[u32; 593], channel: &[u32; 1364], task: u32) -> u32
     ensures { λ r. ⌜ r ≡ doingKind (doingShown (now (registers .entry)) (now (channel .entry)) (record { 0 = task })) ⌝ }
 {
     store::kind_of(store::doing_of(registers, channel, Task(task)))
@@ -242,8 +242,8 @@ pub extern "C" fn gondzselu_task(registers: &[u32; 1544], channel: &[u32; 4808],
 // The value read by a task that is done with a read, the operand of one that asks for an update; else 0.
 #[no_mangle]
 pub extern "C" fn gondzselu_task_value(
-    registers: &[u32; 1544],
-    channel: &[u32; 4808],
+    registers: &[u32; 593],
+    channel: &[u32; 1364],
     task: u32,
 ) -> u32
     ensures { λ r. ⌜ r ≡ doingValue (doingShown (now (registers .entry)) (now (channel .entry)) (record { 0 = task })) ⌝ }
@@ -253,7 +253,7 @@ pub extern "C" fn gondzselu_task_value(
 
 // Broadcasts made.
 #[no_mangle]
-pub extern "C" fn gondzselu_broadcasts(channel: &[u32; 4808]) -> u32
+pub extern "C" fn gondzselu_broadcasts(channel: &[u32; 1364]) -> u32
     ensures { λ r. ⌜ r ≡ madeOf (now (channel .entry)) ⌝ }
 {
     channel::made(channel).0
@@ -261,7 +261,7 @@ pub extern "C" fn gondzselu_broadcasts(channel: &[u32; 4808]) -> u32
 
 // Broadcasts that a card has taken; 0 for an absent card.
 #[no_mangle]
-pub extern "C" fn gondzselu_broadcasts_taken(channel: &[u32; 4808], card: u32) -> u32
+pub extern "C" fn gondzselu_broadcasts_taken(channel: &[u32; 1364], card: u32) -> u32
     ensures { λ r. ⌜ r ≡ takenBy (now (channel .entry)) card ⌝ }
 {
     channel::taken(channel, Card(card)).0
@@ -269,7 +269,7 @@ pub extern "C" fn gondzselu_broadcasts_taken(channel: &[u32; 4808], card: u32) -
 
 // Requests taken.
 #[no_mangle]
-pub extern "C" fn gondzselu_requests(registers: &[u32; 1544]) -> u32
+pub extern "C" fn gondzselu_requests(registers: &[u32; 593]) -> u32
     ensures { λ r. ⌜ r ≡ requestsOf (now (registers .entry)) ⌝ }
 {
     store::requests(registers)

@@ -24,6 +24,10 @@ each-suc n p = refl
 pub each-more : (n : ℕ) (p : ℕ → Bool) → each n p ≡ true → p n ≡ true → each (n + 1) p ≡ true
 each-more n p a e = rw (add-one n, each-suc n p) (and-intro a e)
 
+-- one more
+pub each-next : (n : ℕ) (p : ℕ → Bool) → each (n + 1) p ≡ (each n p && p n)
+each-next n p = rw (add-one n) (each-suc n p)
+
 -- each that is below the bound passes
 pub each-at : (n : ℕ) (p : ℕ → Bool) → each n p ≡ true → (i : ℕ) → i < n → p i ≡ true
 unfolding each

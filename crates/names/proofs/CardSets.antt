@@ -1,7 +1,13 @@
 -- Sets of one card and of several, and some sets computed.
-use Prim.Native.Nat.{ℕ}
+use Prim.Native.Nat.{ℕ, _+_, _-_, _*_, _/_, _%_, _<_, _≤_, _^_}
 use mathlib.Core.Path.{_≡_, refl, sym, ap, _∙_}
-use mathlib.Core.Bool.{Bool, true, false, not}
+use mathlib.Core.Bool.{Bool, true, false, not, cond}
+use mathlib.Core.Logic.{_≢_}
+use native.Mathlib.Omega.{arith}
+use borrow.Author.Tests.{ne-eqb, eqb-true, lt-ltb, le-ltb}
+use lib.Bits.{bitAnd}
+use lib.Dec.{eqb, ltb}
+use Rattle.lists.specs.Every.{each, each-at}
 use Rattle.lists.specs.Loops.{total, turns}
 use Rattle.names.specs.CardSet.{memberOf, sizeOf, single, several, soleOf}
 use Rattle.names.specs.CardSetMeaning.{CardSetsComputed}
@@ -19,6 +25,101 @@ single-of set e = sym (not-not (single set)) ∙ ap not e
 pub not-several : (set : ℕ) → single set ≡ true → several set ≡ false
 unfolding several
 not-several set e = ap not e
+
+-- ---- one shifted by a number of places does not run over a word
+
+shifts : ℕ → Bool
+shifts k = eqb (1 * 2 ^ k % 4294967296) (2 ^ k)
+
+all-shift : each 32 shifts ≡ true
+unfolding each shifts
+all-shift = refl
+
+pub one-shifted : (k : ℕ) → k < 32 → 1 * 2 ^ k % 4294967296 ≡ 2 ^ k
+unfolding shifts
+one-shifted k h = eqb-true _ _ (each-at 32 shifts all-shift k h)
+
+-- ---- one card only, told by taking one from the number
+
+-- only the cards 0 to 7 count: each bit below 2^8
+module _ (set : ℕ) where
+  bit-0 : set % 256 / (2 ^ 0) % 2 ≡ set / (2 ^ 0) % 2
+  bit-0 = omega arith
+
+  bit-1 : set % 256 / (2 ^ 1) % 2 ≡ set / (2 ^ 1) % 2
+  bit-1 = omega arith
+
+  bit-2 : set % 256 / (2 ^ 2) % 2 ≡ set / (2 ^ 2) % 2
+  bit-2 = omega arith
+
+  bit-3 : set % 256 / (2 ^ 3) % 2 ≡ set / (2 ^ 3) % 2
+  bit-3 = omega arith
+
+  bit-4 : set % 256 / (2 ^ 4) % 2 ≡ set / (2 ^ 4) % 2
+  bit-4 = omega arith
+
+  bit-5 : set % 256 / (2 ^ 5) % 2 ≡ set / (2 ^ 5) % 2
+  bit-5 = omega arith
+
+  bit-6 : set % 256 / (2 ^ 6) % 2 ≡ set / (2 ^ 6) % 2
+  bit-6 = omega arith
+
+  bit-7 : set % 256 / (2 ^ 7) % 2 ≡ set / (2 ^ 7) % 2
+  bit-7 = omega arith
+
+  pub single-low : single (set % 256) ≡ single set
+  unfolding single sizeOf total turns
+  single-low = rw (bit-0, bit-1, bit-2, bit-3, bit-4, bit-5, bit-6, bit-7)
+
+  pub sole-low : soleOf (set % 256) ≡ soleOf set
+  unfolding soleOf total turns
+  sole-low = rw (bit-0, bit-1, bit-2, bit-3, bit-4, bit-5, bit-6, bit-7)
+
+-- tried on each set of the cards 0 to 7
+agrees : ℕ → Bool
+agrees x = cond (eqb x 0) (not (single x)) (cond (eqb (bitAnd x (x - 1)) 0) (single x) (not (single x)))
+
+all-agree : each 256 agrees ≡ true
+unfolding each agrees single sizeOf total turns
+all-agree = refl
+
+pub none-single : single 0 ≡ false
+unfolding single sizeOf total turns
+none-single = refl
+
+pub single-bits : (x : ℕ) → x < 256 → x ≢ 0 → eqb (bitAnd x (x - 1)) 0 ≡ single x
+unfolding agrees
+single-bits x h n = go (eqb (bitAnd x (x - 1)) 0) (single x) (rw (ne-eqb x 0 n) at (each-at 256 agrees all-agree x h))
+  where
+    go : (a b : Bool) → cond a b (not b) ≡ true → a ≡ b
+    go true true e = refl
+    go true false e = sym e
+    go false true e = e
+    go false false e = refl
+
+-- ---- the only card, told by halving, for each of those sets
+
+halved : ℕ → ℕ
+halved x = x / 2 - x / 8
+
+halves : ℕ → Bool
+halves x = cond (single x) (eqb (soleOf x) (cond (ltb x 16) (halved x) (4 + x / 16 / 2 - x / 16 / 8))) true
+
+all-halve : each 256 halves ≡ true
+unfolding each halves halved single sizeOf soleOf total turns
+all-halve = refl
+
+module _ (x : ℕ) (h : x < 256) (one : single x ≡ true) where
+  sole-halved : soleOf x ≡ cond (ltb x 16) (halved x) (4 + x / 16 / 2 - x / 16 / 8)
+  unfolding halves
+  sole-halved = eqb-true _ _ (rw one at (each-at 256 halves all-halve x h))
+
+  pub sole-few : x < 16 → soleOf x ≡ x / 2 - x / 8
+  unfolding halved
+  sole-few l = rw (lt-ltb x 16 l) at sole-halved
+
+  pub sole-more : 16 ≤ x → soleOf x ≡ 4 + x / 16 / 2 - x / 16 / 8
+  sole-more l = rw (le-ltb x 16 l) at sole-halved
 
 pub card-sets-computed : CardSetsComputed
 unfolding memberOf sizeOf single several soleOf total turns

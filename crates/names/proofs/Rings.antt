@@ -1,4 +1,4 @@
--- The words of a ring after a letter has joined it, and after its head is gone. Which words are apart says the ring's own layout.
+-- The words of a ring after a packet has joined it, and after its head is gone. Which words are apart says the ring's own layout.
 use Prim.Native.Nat.{ℕ, suc, _+_, _-_, _*_, _%_, _<_, _≤_}
 use mathlib.Core.Path.{_≡_, _∙_}
 use mathlib.Core.Logic.{_≢_}
@@ -7,30 +7,30 @@ use native.Mathlib.Omega.{arith}
 use borrow.Author.Tests.{lt-ltb, ne-eqb}
 use lib.ListN.{length, getD, set, length-set}
 use lib.Seq.{getD-set-same, getD-set-other}
-use Rattle.names.specs.declared.Letter.{Letter}
-use Rattle.names.specs.Letters.{letterAt, stored}
+use Rattle.names.specs.declared.Packet.{Packet}
+use Rattle.names.specs.Letters.{letterOf, letterAt, stored}
 use Rattle.names.specs.Rings.{joined, headGone}
 use Rattle.names.proofs.Blocks.{word-other, letter-cong, letter-same, length-stored}
 
-module _ (ws : List ℕ) (c b n : ℕ) (l : Letter) (room : getD ws c 0 < n) where
-  joined-is : joined ws c b n l ≡ set (stored ws b l 0) c (getD ws c 0 + 1)
+module _ (ws : List ℕ) (c b n : ℕ) (l : Packet) (room : getD ws c 0 < n) where
+  joined-is : joined ws c b n l ≡ set (stored ws b l) c (getD ws c 0 + 1)
   joined-is = rw (lt-ltb (getD ws c 0) n room)
 
   pub joined-long : length (joined ws c b n l) ≡ length ws
-  joined-long = rw joined-is (length-set (stored ws b l 0) c (getD ws c 0 + 1) ∙ length-stored ws b l 0)
+  joined-long = rw joined-is (length-set (stored ws b l) c (getD ws c 0 + 1) ∙ length-stored ws b l)
 
   -- the words that it leaves
-  pub joined-word : (a : ℕ) → a ≢ c → ((k : ℕ) → k < 8 → a ≢ b * 8 + k) → getD (joined ws c b n l) a 0 ≡ getD ws a 0
-  joined-word a d h = rw joined-is (getD-set-other (stored ws b l 0) c a (getD ws c 0 + 1) 0 d ∙ word-other ws b l 0 a h)
+  pub joined-word : (a : ℕ) → a ≢ c → ((k : ℕ) → k < 2 → a ≢ b + k) → getD (joined ws c b n l) a 0 ≡ getD ws a 0
+  joined-word a d h = rw joined-is (getD-set-other (stored ws b l) c a (getD ws c 0 + 1) 0 d ∙ word-other ws b l a h)
 
   pub joined-count : c < length ws → getD (joined ws c b n l) c 0 ≡ getD ws c 0 + 1
-  joined-count h = rw joined-is (getD-set-same (stored ws b l 0) c (getD ws c 0 + 1) 0 (omega (arith, length-stored ws b l 0)))
+  joined-count h = rw joined-is (getD-set-same (stored ws b l) c (getD ws c 0 + 1) 0 (omega (arith, length-stored ws b l)))
 
-  pub joined-block : (k : ℕ) → b * 8 + k ≢ c → getD (joined ws c b n l) (b * 8 + k) 0 ≡ getD (stored ws b l 0) (b * 8 + k) 0
-  joined-block k d = rw joined-is (getD-set-other (stored ws b l 0) c (b * 8 + k) (getD ws c 0 + 1) 0 d)
+  pub joined-block : (k : ℕ) → b + k ≢ c → getD (joined ws c b n l) (b + k) 0 ≡ getD (stored ws b l) (b + k) 0
+  joined-block k d = rw joined-is (getD-set-other (stored ws b l) c (b + k) (getD ws c 0 + 1) 0 d)
 
-  pub joined-last : ((k : ℕ) → k < 8 → b * 8 + k ≢ c) → b * 8 + 8 ≤ length ws → letterAt (joined ws c b n l) b ≡ l
-  joined-last d h = letter-cong (joined ws c b n l) (stored ws b l 0) b (λ k g. joined-block k (d k g)) ∙ letter-same ws b l 0 h
+  pub joined-last : ((k : ℕ) → k < 2 → b + k ≢ c) → b + 2 ≤ length ws → letterAt (joined ws c b n l) b ≡ letterOf l
+  joined-last d h = letter-cong (joined ws c b n l) (stored ws b l) b (λ k g. joined-block k (d k g)) ∙ letter-same ws b l h
 
 module _ (ws : List ℕ) (h c n m : ℕ) (some-in : getD ws c 0 ≡ suc m) where
   abbrev onward : List ℕ

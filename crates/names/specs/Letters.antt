@@ -1,13 +1,15 @@
--- A letter, that is a message (RULES 1.7) with its sender and its destinations, in a block of eight words: kind, task, register, function,
--- value, sender, destinations, tag. Block b starts at word b * 8 of the memory it lies in. Kinds 1 to 4: the four messages.
-use Prim.Native.Nat.{ℕ, zero, suc, _+_, _*_, _/_}
-use mathlib.Core.Bool.{Bool, true, false, cond}
+-- A letter, that is a message (RULES 1.7) with its destinations, as it lies in memory (RULES 11.12): a packet of two words. The first has, from
+-- its lowest digit on, the kind, the task, the register, the function and the destinations; the second has the operand or value. Kinds 1 to 4:
+-- the four messages; kind 0: none. A message held or in flight has a third word, its tag. All that is said of a letter in memory goes by this page.
+use Prim.Native.Nat.{ℕ, zero, suc, _+_, _*_, _/_, _%_, _<_}
+use mathlib.Core.Bool.{Bool, true, false, cond, not, _||_}
 use mathlib.Core.List.{List}
 use lib.Dec.{eqb, ltb}
-use lib.ListN.{getD, set, length}
+use lib.ListN.{getD, set}
 use Rattle.names.specs.declared.Body.{Body}
 use Rattle.names.specs.declared.Body.the-variants.{ReadDo, UpdateDo, ReadReply, UpdateReply}
 use Rattle.names.specs.declared.Letter.{Letter}
+use Rattle.names.specs.declared.Packet.{Packet}
 use Rattle.names.specs.Update.{knownFunction}
 
 unfoldable pub bodyOf : ℕ → ℕ → ℕ → Body
@@ -31,50 +33,78 @@ valueOf (UpdateDo f v) = v
 valueOf (ReadReply v) = v
 valueOf UpdateReply = 0
 
--- the kind in block b
-abbrev pub kindAt : List ℕ → ℕ → ℕ
-kindAt ws b = getD ws (b * 8) 0
+-- ---- the fields of a first word; the destinations are all that is left of it, so no part of a word is out of sight
 
--- the tag in block b
-abbrev pub tagAt : List ℕ → ℕ → ℕ
-tagAt ws b = getD ws (b * 8 + 7) 0
+unfoldable pub kindIn : ℕ → ℕ
+kindIn w = w % 8
 
--- the letter of seven words
-abbrev pub letterOf : ℕ → ℕ → ℕ → ℕ → ℕ → ℕ → ℕ → Letter
-letterOf kind task register f v from to = record {
-  message = record { task = record { 0 = task }; register = record { 0 = register }; body = bodyOf kind f v };
-  from = record { 0 = from };
-  to = to;
+unfoldable pub taskIn : ℕ → ℕ
+taskIn w = w / 8 % 16
+
+unfoldable pub registerIn : ℕ → ℕ
+registerIn w = w / 128 % 32
+
+unfoldable pub functionIn : ℕ → ℕ
+functionIn w = w / 4096 % 8
+
+unfoldable pub toIn : ℕ → ℕ
+toIn w = w / 32768
+
+-- the first word with these fields; a field past its room is cut to it, which no letter of a store's sizes needs (Packs)
+unfoldable pub wordOf : ℕ → ℕ → ℕ → ℕ → ℕ → ℕ
+wordOf kind task register f to = kind % 8 + task % 16 * 8 + register % 32 * 128 + f % 8 * 4096 + to % 131072 * 32768
+
+-- the letter that a packet carries
+unfoldable pub letterOf : Packet → Letter
+letterOf p = record {
+  message = record {
+    task = record { 0 = taskIn (p .word) };
+    register = record { 0 = registerIn (p .word) };
+    body = bodyOf (kindIn (p .word)) (functionIn (p .word)) (p .value);
+  };
+  to = toIn (p .word);
 }
 
--- the letter in block b
-unfoldable pub letterAt : List ℕ → ℕ → Letter
-letterAt ws b =
-    letterOf (kindAt ws b) (getD ws (b * 8 + 1) 0) (getD ws (b * 8 + 2) 0) (getD ws (b * 8 + 3) 0) (getD ws (b * 8 + 4) 0)
-    (getD ws (b * 8 + 5) 0) (getD ws (b * 8 + 6) 0)
+-- the packet that carries a letter
+unfoldable pub packetOf : Letter → Packet
+packetOf l = record {
+  word = wordOf (kindOf (l .message .body)) (l .message .task .0) (l .message .register .0) (functionOf (l .message .body)) (l .to);
+  value = valueOf (l .message .body);
+}
 
--- block b with a letter and a tag
-unfoldable pub stored : List ℕ → ℕ → Letter → ℕ → List ℕ
-stored ws b l t =
-    set (set (set (set (set (set (set (set ws
-    (b * 8) (kindOf (l .message .body)))
-    (b * 8 + 1) (l .message .task .0))
-    (b * 8 + 2) (l .message .register .0))
-    (b * 8 + 3) (functionOf (l .message .body)))
-    (b * 8 + 4) (valueOf (l .message .body)))
-    (b * 8 + 5) (l .from .0))
-    (b * 8 + 6) (l .to))
-    (b * 8 + 7) t
+-- a letter whose fields have room: it is carried as it is
+pub record Packs (l : Letter) : Type 0 where
+  pub task : l .message .task .0 < 16
+  pub register : l .message .register .0 < 32
+  pub function : functionOf (l .message .body) < 8
+  pub to : l .to < 131072
 
--- the memory reaches to the end of block b
-unfoldable pub reaches : List ℕ → ℕ → Bool
-reaches ws b = ltb b (length ws / 8)
+-- ---- in memory, at word b and the next
 
-unfoldable pub letterIn : List ℕ → ℕ → Letter
-letterIn ws b = cond (reaches ws b) (letterAt ws b) (letterOf 0 0 0 0 0 0 0)
+abbrev pub packetAt : List ℕ → ℕ → Packet
+packetAt ws b = record { word = getD ws b 0; value = getD ws (b + 1) 0 }
 
-unfoldable pub storedIn : List ℕ → ℕ → Letter → ℕ → List ℕ
-storedIn ws b l t = cond (reaches ws b) (stored ws b l t) ws
+abbrev pub kindAt : List ℕ → ℕ → ℕ
+kindAt ws b = kindIn (getD ws b 0)
+
+abbrev pub letterAt : List ℕ → ℕ → Letter
+letterAt ws b = letterOf (packetAt ws b)
+
+-- a packet written there
+unfoldable pub stored : List ℕ → ℕ → Packet → List ℕ
+stored ws b p = set (set ws b (p .word)) (b + 1) (p .value)
+
+-- the tag of a message held or in flight
+abbrev pub tagAt : List ℕ → ℕ → ℕ
+tagAt ws b = getD ws (b + 2) 0
+
+-- a packet and its tag written there
+unfoldable pub marked : List ℕ → ℕ → Packet → ℕ → List ℕ
+marked ws b p t = set (stored ws b p) (b + 2) t
+
+-- of the kinds, only an update (2) names a function, and it must be known
+unfoldable pub functionFits : ℕ → ℕ → Bool
+functionFits kind f = not (eqb kind 2) || knownFunction f
 
 -- an update has one of the known functions
 unfoldable pub known : Body → Bool

@@ -5,4 +5,5 @@ pub mod UpdateMeaning
 pub mod Placement
 pub mod Step
 pub mod Letters
+pub mod LettersMeaning
 pub mod Rings

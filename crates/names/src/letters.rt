@@ -1,16 +1,15 @@
-// Letters in blocks of eight words: kind, task, register, function, value, sender, destinations, tag.
+// Letters in packets of two words: a word with kind, task, register, function and destinations, and the operand or value.
 ghost use mathlib.Core.Path.{_≡_};
-ghost use Rattle.names.specs.Letters.{bodyOf, kindOf, functionOf, valueOf, known, letterOf, letterIn, storedIn};
+ghost use Rattle.names.specs.Letters.{bodyOf, kindOf, functionOf, valueOf, known, functionFits, kindIn, taskIn, registerIn, functionIn, toIn, wordOf, letterOf, packetOf};
 use crate::Body;
-use crate::BroadcastNumber;
-use crate::Card;
 use crate::Letter;
 use crate::Message;
+use crate::Packet;
 use crate::Register;
 use crate::Task;
 use crate::known_function;
 
-// The body that a block's kind, function and value give.
+// The body that a packet's kind, function and value give.
 pub fn body_of(kind: u32, function: u32, value: u32) -> Body
     ensures { λ r. ⌜ r ≡ bodyOf kind function value ⌝ }
 {
@@ -74,66 +73,83 @@ pub fn known(body: Body) -> bool
     }
 }
 
-// The letter of seven words.
-fn letter_of(
-    kind: u32,
-    task: Task,
-    register: Register,
-    function: u32,
-    value: u32,
-    from: Card,
-    to: u32,
-) -> Letter
-    ensures { λ r. ⌜ r ≡ letterOf kind (task .0) (register .0) function value («from» .0) to ⌝ }
+// Whether a function is known where an update, kind 2, names it.
+pub fn function_fits(kind: u32, function: u32) -> bool
+    ensures { λ r. ⌜ r ≡ functionFits kind function ⌝ }
 {
-    let body = body_of(kind, function, value);
+    (kind != 2) | known_function(function)
+}
+
+// The fields of a packet's first word.
+pub fn kind_in(word: u32) -> u32
+    ensures { λ r. ⌜ r ≡ kindIn word ⌝ }
+{
+    word % 8
+}
+
+pub fn task_in(word: u32) -> Task
+    ensures { λ r. ⌜ r ≡ record { 0 = taskIn word } ⌝ }
+{
+    Task(word / 8 % 16)
+}
+
+pub fn register_in(word: u32) -> Register
+    ensures { λ r. ⌜ r ≡ record { 0 = registerIn word } ⌝ }
+{
+    Register(word / 128 % 32)
+}
+
+pub fn function_in(word: u32) -> u32
+    ensures { λ r. ⌜ r ≡ functionIn word ⌝ }
+{
+    word / 4096 % 8
+}
+
+pub fn to_in(word: u32) -> u32
+    ensures { λ r. ⌜ r ≡ toIn word ⌝ }
+{
+    word / 32768
+}
+
+// The letter that a packet carries.
+pub fn letter_of(packet: Packet) -> Letter
+    ensures { λ r. ⌜ r ≡ letterOf packet ⌝ }
+{
+    let word = packet.word;
+    let body = body_of(kind_in(word), function_in(word), packet.value);
     let message = Message {
-        task: task,
-        register: register,
+        task: task_in(word),
+        register: register_in(word),
         body: body,
     };
     Letter {
         message: message,
-        from: from,
-        to: to,
+        to: to_in(word),
     }
 }
 
-// The letter in a block; the letter of zeros where the memory does not reach.
-pub fn load(memory: &[u32], block: usize) -> Letter
-    ensures { λ r. ⌜ r ≡ letterIn (now (memory .entry)) block ⌝ }
+// The first word of a packet with these fields; a field past its room is cut to it.
+fn word_of(kind: u32, task: Task, register: Register, function: u32, to: u32) -> u32
+    ensures { λ r. ⌜ r ≡ wordOf kind (task .0) (register .0) function to ⌝ }
 {
-    if memory.len() / 8 <= block {
-        return letter_of(0, Task(0), Register(0), 0, 0, Card(0), 0);
-    }
-    let at = block * 8;
-    letter_of(
-        memory[at],
-        Task(memory[at + 1]),
-        Register(memory[at + 2]),
-        memory[at + 3],
-        memory[at + 4],
-        Card(memory[at + 5]),
-        memory[at + 6],
-    )
+    kind % 8 + task.0 % 16 * 8 + register.0 % 32 * 128 + function % 8 * 4096 + to % 131072 * 32768
 }
 
-// A letter and a tag into a block; nothing where the memory does not reach.
-pub fn store(memory: &mut [u32], block: usize, letter: Letter, tag: BroadcastNumber)
-    ensures { λ _. ⌜ now (memory .exit) ≡ storedIn (now (memory .entry)) block letter (tag .0) ⌝ }
+// The packet that carries a letter.
+pub fn packet_of(letter: Letter) -> Packet
+    ensures { λ r. ⌜ r ≡ packetOf letter ⌝ }
 {
-    if memory.len() / 8 <= block {
-        return;
-    }
-    let at = block * 8;
     let message = letter.message;
     let body = message.body;
-    memory[at] = kind_of(body);
-    memory[at + 1] = message.task.0;
-    memory[at + 2] = message.register.0;
-    memory[at + 3] = function_of(body);
-    memory[at + 4] = value_of(body);
-    memory[at + 5] = letter.from.0;
-    memory[at + 6] = letter.to;
-    memory[at + 7] = tag.0;
+    let word = word_of(
+        kind_of(body),
+        message.task,
+        message.register,
+        function_of(body),
+        letter.to,
+    );
+    Packet {
+        word: word,
+        value: value_of(body),
+    }
 }

@@ -1,8 +1,9 @@
 // The vocabulary that the channel, the registers and the run files share: cards, tasks, registers and broadcast numbers as types of
 // their own (RULES 1.6), messages between cards, sets of cards, and what the functions of an update do.
 ghost use mathlib.Core.Path.{_≡_};
+ghost use mathlib.Core.Bool.{cond};
 ghost use Prim.Native.Nat.{_<_};
-ghost use Rattle.names.specs.CardSet.{memberOf, sizeOf, several, single, soleOf};
+ghost use Rattle.names.specs.CardSet.{memberOf, several, single, soleOf};
 ghost use Rattle.names.specs.Update.{raised, largerOf, sumOf, updated, knownFunction};
 
 pub mod letters;
@@ -39,11 +40,16 @@ pub struct Message {
     pub body: Body,
 }
 
-// A message with its sender and its destinations, a set of cards.
+// A message with its destinations, a set of cards.
 pub struct Letter {
     pub message: Message,
-    pub from: Card,
     pub to: u32,
+}
+
+// A letter as it lies in memory (specs/Letters): kind, task, register, function and destinations in one word, the operand or value in another.
+pub struct Packet {
+    pub word: u32,
+    pub value: u32,
 }
 
 // What a step answers: 0 where it is taken, else its refusal; and the value that a taken report of a read gives, else 0.
@@ -70,20 +76,6 @@ pub fn member(set: u32, card: Card) -> bool
     (set >> i) % 2 == 1
 }
 
-// How many of the cards 0 to 7 are in a set.
-pub fn size(set: u32) -> u32
-    ensures { λ r. ⌜ r ≡ sizeOf set ⌝ }
-{
-    set % 2
-        + set / 2 % 2
-        + set / 4 % 2
-        + set / 8 % 2
-        + set / 16 % 2
-        + set / 32 % 2
-        + set / 64 % 2
-        + set / 128 % 2
-}
-
 // Whether a set that is not empty has more cards than one.
 pub fn several(set: u32) -> bool
     ensures { λ r. ⌜ r ≡ several set ⌝ }
@@ -91,26 +83,30 @@ pub fn several(set: u32) -> bool
     !single(set)
 }
 
-// Whether a set has one card.
+// Whether a set has one card: taking one from a number clears its lowest bit, and with it the only one.
 pub fn single(set: u32) -> bool
     ensures { λ r. ⌜ r ≡ single set ⌝ }
 {
-    size(set) == 1
+    let cards = set % 256;
+    if cards == 0 {
+        return false;
+    }
+    cards & (cards - 1) == 0
 }
 
-// The only card, of a set that has one.
+// The only card of a set that has one, else 0. The numbers 1, 2, 4 and 8, halved, less an eighth, are 0, 1, 2 and 3.
 pub fn sole(set: u32) -> Card
-    ensures { λ r. ⌜ r .0 ≡ soleOf set ⌝ }
+    ensures { λ r. ⌜ r .0 ≡ cond (single set) (soleOf set) 0 ⌝ }
 {
-    Card(
-        set / 2 % 2
-            + set / 4 % 2 * 2
-            + set / 8 % 2 * 3
-            + set / 16 % 2 * 4
-            + set / 32 % 2 * 5
-            + set / 64 % 2 * 6
-            + set / 128 % 2 * 7,
-    )
+    if !single(set) {
+        return Card(0);
+    }
+    let cards = set % 256;
+    if cards < 16 {
+        return Card(cards / 2 - cards / 8);
+    }
+    let high = cards / 16;
+    Card(4 + high / 2 - high / 8)
 }
 
 // Function 2: an add that stays at the largest value once there. A tally counts so too.

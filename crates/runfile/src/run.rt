@@ -23,7 +23,7 @@ use crate::Answered;
 use names::wide;
 
 // Both memories begun from the file's placement.
-fn begin(file: &[u8], registers: &mut [u32; 1544], channel: &mut [u32; 4808])
+fn begin(file: &[u8], registers: &mut [u32; 593], channel: &mut [u32; 1364])
     requires { ⌜ codesAt (now file) ≤ length (now file) ⌝ }
     ensures registers { λ _. ⌜ now (registers .exit) ≡ startRegisters (placementIn (now (file .entry))) (now (registers .entry)) ⌝ }
     ensures channel { λ _. ⌜ now (channel .exit) ≡ startChannel (placementIn (now (file .entry))) (now (channel .entry)) ⌝ }
@@ -43,7 +43,7 @@ fn begin(file: &[u8], registers: &mut [u32; 1544], channel: &mut [u32; 4808])
 }
 
 // A store begun from an accepted file: 0, or the refusal of the file and both memories as they were.
-pub fn start(file: &[u8], registers: &mut [u32; 1544], channel: &mut [u32; 4808]) -> u8
+pub fn start(file: &[u8], registers: &mut [u32; 593], channel: &mut [u32; 1364]) -> u8
     ensures registers { λ _. ⌜ now (registers .exit) ≡ fileRegisters (now (file .entry)) (now (registers .entry)) ⌝ }
     ensures channel { λ _. ⌜ now (channel .exit) ≡ fileChannel (now (file .entry)) (now (channel .entry)) ⌝ }
     ensures number { λ r. ⌜ r ≡ fileRefusal (now (file .entry)) ⌝ }
@@ -107,8 +107,8 @@ fn one_if(b: bool) -> u32
 fn turn(
     file: &[u8],
     out: &mut [u8],
-    registers: &mut [u32; 1544],
-    channel: &mut [u32; 4808],
+    registers: &mut [u32; 593],
+    channel: &mut [u32; 1364],
     codes: usize,
     arguments: usize,
     n: usize,
@@ -132,8 +132,8 @@ fn turn(
 fn go(
     file: &[u8],
     out: &mut [u8],
-    registers: &mut [u32; 1544],
-    channel: &mut [u32; 4808],
+    registers: &mut [u32; 593],
+    channel: &mut [u32; 1364],
 ) -> Answered
     requires { ⌜ (stepsIn (now file) ≤ 4096) × (fileLength (now file) ≤ length (now file)) × (2 + 5 * stepsIn (now file) ≤ length (now out)) ⌝ }
     ensures counts { λ r. ⌜ r ≡ counted (answerAt (stepIn (now (file .entry))) (stored (now (registers .entry)) (now (channel .entry)))) (stepsIn (now (file .entry))) ⌝ }
@@ -165,8 +165,8 @@ fn whole(file: &[u8], out: &mut [u8]) -> Answered
     ensures counts { λ r. ⌜ r ≡ answeredOf (now (file .entry)) (now (out .entry)) ⌝ }
     ensures output { λ _. ⌜ now (out .exit) ≡ answerOutput (now (file .entry)) (now (out .entry)) ⌝ }
 {
-    let mut registers = [0u32; 1544];
-    let mut channel = [0u32; 4808];
+    let mut registers = [0u32; 593];
+    let mut channel = [0u32; 1364];
     begin(file, &mut registers, &mut channel);
     go(file, out, &mut registers, &mut channel)
 }

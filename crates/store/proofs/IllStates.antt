@@ -20,12 +20,12 @@ use Rattle.channel.specs.IllSized as Channel
 use Rattle.channel.proofs.Offered.{block-exact, channel-exact}
 use Rattle.tables.specs.declared.Doing.{Doing}
 use Rattle.tables.specs.declared.Doing.the-variants.{Quiet, AskingRead, AskingUpdate, Waiting, DoneRead, DoneUpdate}
-use Rattle.tables.specs.Layout.{kindWord, requestsOf, homeOf, holdersOf, primaryOf}
+use Rattle.tables.specs.Layout.{requestsOf, homeOf, holdersOf, primaryOf}
 use Rattle.tables.specs.Doings.{doingAt}
 use Rattle.tables.specs.Outbox.{outHeadOf, outCountOf, outPlace}
-use Rattle.tables.specs.Sized.{doingFits, taskFits, registerFits, outFits, outboxFits, registersSized, storeSized}
+use Rattle.tables.specs.Sized.{doingKindAt, doingFits, taskFits, registerFits, outFits, outboxFits, registersSized, storeSized}
 use Rattle.tables.proofs.Sizing.{RegistersFit, fit-of}
-use Rattle.store.specs.IllStates.{IllSized, no-card, cards, no-register, registers, no-task, tasks, broadcasts, requests, outbox, inbox, held, home, holders, primary, read, update, no-function, function, out-message, inbox-message, held-message, flight-message, broadcast-message, above, below, outbox-head, inbox-head, doing, flight-destination, broadcast-destination, IllStates}
+use Rattle.store.specs.IllStates.{IllSized, no-card, cards, no-register, registers, no-task, tasks, broadcasts, requests, outbox, inbox, held, home, holders, primary, read, update, no-function, function, out-message, inbox-message, held-message, flight-message, broadcast-message, held-tag, flight-tag, above, below, outbox-head, inbox-head, doing, flight-destination, broadcast-destination, IllStates}
 use Rattle.store.proofs.StepLaw.{ill-sized}
 
 module _ (rs cs : List ℕ) where
@@ -45,6 +45,8 @@ module _ (rs cs : List ℕ) where
   of-channel (Channel.held-message i k c g p) = held-message i k c g p
   of-channel (Channel.flight-message t c q p) = flight-message t c q p
   of-channel (Channel.broadcast-message k m h p) = broadcast-message k m h p
+  of-channel (Channel.held-tag i k c g h) = held-tag i k c g h
+  of-channel (Channel.flight-tag t c q h) = flight-tag t c q h
   of-channel (Channel.above i c h) = above i c h
   of-channel (Channel.below i c h) = below i c h
   of-channel (Channel.inbox-head i c h) = inbox-head i c h
@@ -68,8 +70,8 @@ module _ (rs cs : List ℕ) where
   task-fails : (t : ℕ) → t < tasksOf cs → taskFits rs cs t ≡ false → IllSized rs cs
   unfolding taskFits
   task-fails t c e =
-      and-fails (ltb (homeOf rs t) (cardsOf cs) && leb (getD rs (kindWord t) 0) 5) (doingFits cs (doingAt rs t)) e
-      (λ e. and-fails (ltb (homeOf rs t) (cardsOf cs)) (leb (getD rs (kindWord t) 0) 5) e (λ p. home t c (ltb-false _ _ p)) (λ p. doing t c (leb-false _ _ p)))
+      and-fails (ltb (homeOf rs t) (cardsOf cs) && leb (doingKindAt rs t) 5) (doingFits cs (doingAt rs t)) e
+      (λ e. and-fails (ltb (homeOf rs t) (cardsOf cs)) (leb (doingKindAt rs t) 5) e (λ p. home t c (ltb-false _ _ p)) (λ p. doing t c (leb-false _ _ p)))
       (λ p. doing-fails t c (doingAt rs t) refl p)
 
   register-fails : (x : ℕ) → x < registersOf cs → registerFits rs cs x ≡ false → IllSized rs cs
@@ -147,6 +149,8 @@ module _ (rs cs : List ℕ) where
     none (held-message i k c g p) = not-channel (Channel.held-message i k c g p)
     none (flight-message t c q p) = not-channel (Channel.flight-message t c q p)
     none (broadcast-message k m h p) = not-channel (Channel.broadcast-message k m h p)
+    none (held-tag i k c g h) = not-channel (Channel.held-tag i k c g h)
+    none (flight-tag t c q h) = not-channel (Channel.flight-tag t c q h)
     none (above i c h) = not-channel (Channel.above i c h)
     none (below i c h) = not-channel (Channel.below i c h)
     none (outbox-head i c h) = omega (arith, fit .head i c)

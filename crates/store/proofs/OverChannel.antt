@@ -24,7 +24,7 @@ pub record Goes (cs : List ℕ) (w : ChannelState Pub.Letter) (x : ChannelAction
   pub shows : n ≡ 0 → ChannelShows ds (channelStep mail w x)
   pub untouched : n ≢ 0 → ds ≡ cs
   pub sized : wellSized ds ≡ true
-  pub long : length ds ≡ 4808
+  pub long : length ds ≡ 1364
   pub sizes : SameSizes ds cs
 
 alike : Alike plain letterMail mail

@@ -28,11 +28,15 @@ module _ (P : Placement) (ok : placementRefusal P ≡ 0) where
   unfolding sized sizesInRange
   sizes = and-fst (sizesInRange (P .cards) (registers P) (tasks P)) (eqb (length (P .primaries)) (registers P)) (passed .0)
 
+  five : (leb 1 (P .cards) ≡ true) × (leb (P .cards) 8 ≡ true) × (leb 1 (registers P) ≡ true) × (leb (registers P) 32 ≡ true) × (leb 1 (tasks P) ≡ true)
+  five =
+      and-five (leb 1 (P .cards)) (leb (P .cards) 8) (leb 1 (registers P)) (leb (registers P) 32) (leb 1 (tasks P))
+      (and-fst (leb 1 (P .cards) && leb (P .cards) 8 && leb 1 (registers P) && leb (registers P) 32 && leb 1 (tasks P)) (leb (tasks P) 16) sizes)
+
   -- the sizes of RULES 1.3, as the channel has them
   pub channel-sizes : sizesFit (P .cards) (tasks P) (registers P) ≡ true
   channel-sizes =
-      let u = and-five (leb 1 (P .cards)) (leb (P .cards) 8) (leb 1 (registers P)) (leb (registers P) 32) (leb 1 (tasks P))
-      (and-fst (leb 1 (P .cards) && leb (P .cards) 8 && leb 1 (registers P) && leb (registers P) 32 && leb 1 (tasks P)) (leb (tasks P) 16) sizes) in
+      let u = five in
       let t = and-snd (leb 1 (P .cards) && leb (P .cards) 8 && leb 1 (registers P) && leb (registers P) 32 && leb 1 (tasks P)) (leb (tasks P) 16) sizes in
       sizes-fit (P .cards) (tasks P) (registers P) (u .0) (u .1) (u .4) t (u .2) (u .3)
 
@@ -40,10 +44,10 @@ module _ (P : Placement) (ok : placementRefusal P ≡ 0) where
   tasks-low = leb-true _ _ (and-snd (leb 1 (P .cards) && leb (P .cards) 8 && leb 1 (registers P) && leb (registers P) 32 && leb 1 (tasks P)) (leb (tasks P) 16) sizes)
 
   pub registers-low : registers P ≤ 32
-  registers-low =
-      let u = and-five (leb 1 (P .cards)) (leb (P .cards) 8) (leb 1 (registers P)) (leb (registers P) 32) (leb 1 (tasks P))
-      (and-fst (leb 1 (P .cards) && leb (P .cards) 8 && leb 1 (registers P) && leb (registers P) 32 && leb 1 (tasks P)) (leb (tasks P) 16) sizes) in
-      leb-true _ _ (u .3)
+  registers-low = leb-true _ _ (five .3)
+
+  pub cards-low : P .cards ≤ 8
+  cards-low = leb-true _ _ (five .1)
 
   pub home-placed : (c : ℕ) → c < tasks P → home P c < P .cards
   unfolding placed homesPlaced homePlaced

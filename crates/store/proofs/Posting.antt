@@ -12,7 +12,7 @@ use Rattle.names.specs.Letters.{known}
 use Rattle.names.specs.Placement.{Placement}
 use Rattle.automaton.specs.Refusals.{otherwise}
 use Rattle.channel.specs.Layout.{cardsOf, tasksOf, registersOf}
-use Rattle.channel.proofs.Offered.{cards-most, tasks-most, registers-most, fits-of}
+use Rattle.channel.proofs.Offered.{cards-most, tasks-most, registers-most, fits-of, fits-packs}
 use Rattle.claims.specs.Refusals.{outboxRoom}
 use Rattle.claims.specs.Published.{Published, post}
 use Rattle.tables.specs.Layout.{onlyCard}
@@ -52,14 +52,14 @@ module _ (rs cs : List ℕ) (P : Placement) (s : Published) (z : Ready rs cs P s
       go false = refl
 
   pub post-ready : (t x : ℕ) (b : Body) (to : ℕ) → roomy rs i ≡ true → t < tasksOf cs → x < registersOf cs → known b ≡ true → 1 ≤ to → to < 2 ^ cardsOf cs
-      → Ready (posted rs i (letterFor i t x b to)) cs P
+      → Ready (posted rs i (letterFor t x b to)) cs P
       (record { requests = s .requests; status = s .status; table = s .table; out = post i (record { task = t; reg = x; body = b; to = to }) (s .out); channel = s .channel })
   unfolding roomy
   post-ready t x b to e p q k m n =
       let room : outCountOf rs i < 16 = ltb-true _ _ e in
-      let l = letterFor i t x b to in
+      let l = letterFor t x b to in
+      let f = fits-of cs l (record { task = p; register = q; body = k; someone = m; present = n }) in
       registers-ready rs cs P s z (posted rs i l) _ (posted-long rs i l (z .long) room)
-      (post-fit rs cs (cards-most cs) (tasks-most cs) (registers-most cs) (z .long) (z .fit) i card l room
-      (fits-of cs l (record { task = p; register = q; body = k; sender = card; someone = m; present = n })))
-      (post-show rs (cardsOf cs) (tasksOf cs) (registersOf cs) (cards-most cs) (tasks-most cs) (registers-most cs) P s (z .long) (z .show) (s .channel) i card l room)
+      (post-fit rs cs (cards-most cs) (tasks-most cs) (registers-most cs) (z .long) (z .fit) i card l room f)
+      (post-show rs (cardsOf cs) (tasksOf cs) (registersOf cs) (cards-most cs) (tasks-most cs) (registers-most cs) P s (z .long) (z .show) (s .channel) i card l (fits-packs cs l f) room)
       refl

@@ -28,6 +28,7 @@ use Rattle.tables.specs.Sized.{doingFits}
 use Rattle.store.specs.Step.{outcome}
 use Rattle.tables.specs.Shows.{statusOf, RegistersShow}
 use Rattle.store.specs.Demand2.{StepFollows}
+use Rattle.tables.proofs.AskedFits.{doing-packs}
 use Rattle.tables.proofs.Words.{doing-long}
 use Rattle.tables.proofs.Showing.{requests-show, doing-show}
 use Rattle.tables.proofs.Sizing.{requests-fit, doing-fit}
@@ -40,7 +41,7 @@ module _ (rs cs : List ℕ) (P : Placement) (s : Published) (z : Ready rs cs P s
   doing-ready d e =
       registers-ready rs cs P s z (doingStored rs t d) _ (doing-long rs t d ∙ z .long)
       (doing-fit rs cs (cards-most cs) (tasks-most cs) (registers-most cs) (z .long) (z .fit) t there d e)
-      (doing-show rs (cardsOf cs) (tasksOf cs) (registersOf cs) (cards-most cs) (tasks-most cs) (registers-most cs) P s (z .long) (z .show) (s .channel) t there d)
+      (doing-show rs (cardsOf cs) (tasksOf cs) (registersOf cs) (cards-most cs) (tasks-most cs) (registers-most cs) P s (z .long) (z .show) (s .channel) t there d (doing-packs cs d e))
       refl
 
   -- ---- steps 1 and 2

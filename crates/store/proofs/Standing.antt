@@ -26,8 +26,8 @@ use Rattle.tables.proofs.Sizing.{RegistersFit, fit-of, of-fit}
 
 -- the two memories, part by part
 pub record Ready (rs cs : List ℕ) (P : Placement) (s : Published) : Type 0 where
-  pub long : length rs ≡ 1544
-  pub channel-long : length cs ≡ 4808
+  pub long : length rs ≡ 593
+  pub channel-long : length cs ≡ 1364
   pub fit : RegistersFit rs cs
   pub channel-fit : wellSized cs ≡ true
   pub cards= : P .cards ≡ cardsOf cs
@@ -76,7 +76,7 @@ module _ (rs cs : List ℕ) (P : Placement) (s : Published) (z : Ready rs cs P s
   holds-is x i h g = rw (z .cards=, lt-ltb i (cardsOf cs) g, z .show .holders= x h)
 
   -- the same channel
-  pub registers-ready : (us : List ℕ) (u : Published) → length us ≡ 1544 → RegistersFit us cs
+  pub registers-ready : (us : List ℕ) (u : Published) → length us ≡ 593 → RegistersFit us cs
       → RegistersShow us (cardsOf cs) (tasksOf cs) (registersOf cs) P u → u .channel ≡ s .channel → Ready us cs P u
   registers-ready us u l f v e = record {
     long = l;

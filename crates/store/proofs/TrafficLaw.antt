@@ -11,17 +11,18 @@ use Rattle.lists.specs.Listings.{listing-zero}
 use Rattle.names.specs.declared.Card.{Card}
 use Rattle.names.specs.declared.Task.{Task}
 use Rattle.names.specs.declared.Letter.{Letter}
+use Rattle.names.specs.Letters.{packetAt}
 use Rattle.names.specs.Placement.{Placement}
 use Rattle.automaton.specs.State.{ChannelState, ChannelAction, dispatch, takeBroadcast, takeSingle, channelStep}
 use Rattle.channel.specs.Layout.{cardsOf, tasksOf, registersOf}
 use Rattle.channel.specs.Letters.{fits}
 use Rattle.channel.specs.Answers.{answerNumber}
-use Rattle.channel.specs.Dispatch.{letterOf, dispatchAnswer, dispatchMemory}
+use Rattle.channel.specs.Dispatch.{dispatchAnswer, dispatchMemory}
 use Rattle.channel.specs.TakeBroadcast.{takeAnswer, takeMemory}
 use Rattle.channel.specs.TakeSingle.{singleAnswer, singleMemory}
 use Rattle.channel.specs.Sized.{wellSized}
 use Rattle.channel.specs.MemoryCalls.{SameSizes}
-use Rattle.channel.proofs.Offered.{cards-most, tasks-most, registers-most, same-cards, same-tasks, same-registers, block-sizes, block-letter, fits-is, fits-of}
+use Rattle.channel.proofs.Offered.{cards-most, tasks-most, registers-most, same-cards, same-tasks, same-registers, packet-sizes, packet-letter}
 use Rattle.channel.proofs.OfferedCalls.{dispatch-passes, take-broadcast-passes, take-single-passes, dispatch-refusal, take-broadcast-refusal, take-single-refusal}
 use Rattle.claims.specs.Command as Step
 use Rattle.claims.specs.Steps.{good}
@@ -55,7 +56,7 @@ doing-same ds cs e DoneUpdate = refl
 
 out-same : (rs ds cs : List ℕ) → SameSizes ds cs → (i k : ℕ) → outFits rs ds i k ≡ outFits rs cs i k
 unfolding outFits
-out-same rs ds cs e i k = block-sizes ds cs e rs (outPlace rs i k)
+out-same rs ds cs e i k = packet-sizes ds cs e (packetAt rs (outPlace rs i k))
 
 pub fit-sizes : (rs ds cs : List ℕ) → SameSizes ds cs → RegistersFit rs cs → RegistersFit rs ds
 fit-sizes rs ds cs e f =
@@ -75,9 +76,9 @@ fit-sizes rs ds cs e f =
     }
 
 -- memories whose channel is another of the same sizes
-pub channel-ready : (rs us cs ds : List ℕ) (P : Placement) (s u : Published) → Ready rs cs P s → length us ≡ 1544 → RegistersFit us cs
+pub channel-ready : (rs us cs ds : List ℕ) (P : Placement) (s u : Published) → Ready rs cs P s → length us ≡ 593 → RegistersFit us cs
     → RegistersShow us (cardsOf cs) (tasksOf cs) (registersOf cs) P u
-    → wellSized ds ≡ true → length ds ≡ 4808 → SameSizes ds cs → ChannelShows ds (u .channel) → Ready us ds P u
+    → wellSized ds ≡ true → length ds ≡ 1364 → SameSizes ds cs → ChannelShows ds (u .channel) → Ready us ds P u
 channel-ready rs us cs ds P s u z l f v ok dl e w =
     let c = same-cards ds cs e in
     let t = same-tasks ds cs e in
@@ -143,14 +144,12 @@ module _ (rs cs : List ℕ) (P : Placement) (s : Published) (z : Ready rs cs P s
     out-head : (n : ℕ) → outCountOf rs (i .0) ≡ suc n → s .out (i .0) ≡ plain (firstOut rs (i .0)) ∷ outboxOf (unposted rs (i .0)) (i .0)
     out-head n e = z .show .out= (i .0) card ∙ unpost-drops rs (i .0) (z .long) n e
 
-    -- which fits, whoever stands there as its sender: the card sends it
-    head-goes : (n : ℕ) → outCountOf rs (i .0) ≡ suc n → fits cs (letterOf i (firstOut rs (i .0) .message) (firstOut rs (i .0) .to)) ≡ true
+    -- which fits
+    head-goes : (n : ℕ) → outCountOf rs (i .0) ≡ suc n → fits cs (firstOut rs (i .0)) ≡ true
     unfolding outFits firstOut
     head-goes n e =
         let m : (outHeadOf rs (i .0) % 16 + 0) % 16 ≡ outHeadOf rs (i .0) % 16 = omega arith in
-        let f = fits-is cs (firstOut rs (i .0)) (rw m at (block-letter cs rs (outPlace rs (i .0) 0) (z .fit .out (i .0) 0 card (omega arith)))) in
-        fits-of cs (letterOf i (firstOut rs (i .0) .message) (firstOut rs (i .0) .to))
-        (record { task = f .task; register = f .register; body = f .body; sender = card; someone = f .someone; present = f .present })
+        rw m at (packet-letter cs (packetAt rs (outPlace rs (i .0) 0)) (z .fit .out (i .0) 0 card (omega arith)))
 
     abbrev first : Letter
     first = firstOut rs (i .0)
@@ -164,7 +163,7 @@ module _ (rs cs : List ℕ) (P : Placement) (s : Published) (z : Ready rs cs P s
 
     head-called : (n : ℕ) → outCountOf rs (i .0) ≡ suc n → Goes cs (s .channel) (dispatch (i .0) (plain first)) number left
     head-called n e =
-        goes cs (s .channel) (z .channel-shows) (dispatch (i .0) (letterOf i (first .message) (first .to))) number left
+        goes cs (s .channel) (z .channel-shows) (dispatch (i .0) first) number left
         (dispatch-passes cs (z .channel-shows .letters) (z .channel-long) (z .channel-fit) (z .channel-shows .shows) i (first .message) (first .to) card (head-goes n e))
 
     -- the head gone, and dispatched

@@ -21,7 +21,7 @@ use Rattle.store.specs.Perform.{copyUpdated}
 
 -- the reply of card i, to the task's card
 unfoldable pub replied : List ℕ → ℕ → ℕ → ℕ → Body → List ℕ
-replied ws i t x b = posted ws i (letterFor i t x b (onlyCard (homeOf ws t)))
+replied ws i t x b = posted ws i (letterFor t x b (onlyCard (homeOf ws t)))
 
 -- card i is the primary
 abbrev pub isPrimary : ℕ → ℕ → Bool

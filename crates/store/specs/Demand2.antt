@@ -16,8 +16,8 @@ use Rattle.tables.specs.Shows.{StoreShows}
 
 -- well-sized memories that show the placement and the state
 pub record Stands (rs cs : List ℕ) (P : Placement) (s : Published) : Type 0 where
-  pub long : length rs ≡ 1544
-  pub channel-long : length cs ≡ 4808
+  pub long : length rs ≡ 593
+  pub channel-long : length cs ≡ 1364
   pub sized : storeSized rs cs ≡ true
   pub shows : StoreShows rs cs P s
 

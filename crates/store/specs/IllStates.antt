@@ -8,16 +8,16 @@ use mathlib.Core.List.{List}
 use lib.ListN.{getD}
 use Rattle.names.specs.declared.Register.{Register}
 use Rattle.names.specs.CardSet.{several, single}
-use Rattle.names.specs.Letters.{letterAt}
+use Rattle.names.specs.Letters.{letterAt, tagAt}
 use Rattle.channel.specs.Layout.{cardsWord, tasksWord, registersWord, cardsOf, tasksOf, registersOf, madeOf, takenOf, headOf, countOf, heldCountOf, placeOf, heldBlock, flightBlock, broadcastBlock}
 use Rattle.channel.specs.TakeSingle.{noFlight}
 use Rattle.channel.specs.IllSized.{PastBlock}
 use Rattle.claims.specs.Steps.{RawStep}
 use Rattle.tables.specs.declared.Doing.the-variants.{AskingRead, AskingUpdate}
-use Rattle.tables.specs.Layout.{kindWord, requestsOf, homeOf, holdersOf, primaryOf}
+use Rattle.tables.specs.Layout.{requestsOf, homeOf, holdersOf, primaryOf}
 use Rattle.tables.specs.Doings.{doingAt}
 use Rattle.tables.specs.Outbox.{outHeadOf, outCountOf, outPlace}
-use Rattle.tables.specs.Sized.{storeSized}
+use Rattle.tables.specs.Sized.{doingKindAt, storeSized}
 use Rattle.store.specs.Step.{outcome, stepped}
 
 pub data IllSized (rs cs : List ℕ) : Type 0 where
@@ -45,13 +45,16 @@ pub data IllSized (rs cs : List ℕ) : Type 0 where
   update : (t : ℕ) (x : Register) (f w : ℕ) → t < tasksOf cs → doingAt rs t ≡ AskingUpdate x f w → registersOf cs ≤ x .0 → IllSized rs cs
   no-function : (t : ℕ) (x : Register) (w : ℕ) → t < tasksOf cs → doingAt rs t ≡ AskingUpdate x 0 w → IllSized rs cs
   function : (t : ℕ) (x : Register) (f w : ℕ) → t < tasksOf cs → doingAt rs t ≡ AskingUpdate x f w → 5 < f → IllSized rs cs
-  -- f, g, i: of a message in an outbox, in an inbox, held, in flight, or among the last 64 broadcasts, one rule for all: its fields, its tag, and
-  -- that it has a kind and a destination
+  -- f, i: of a message in an outbox, in an inbox, held, in flight, or among the last 64 broadcasts, one rule for all: its fields, and that it has
+  -- a kind and a destination
   out-message : (i k : ℕ) → i < cardsOf cs → k < outCountOf rs i → PastBlock cs rs (outPlace rs i k) → IllSized rs cs
   inbox-message : (i k : ℕ) → i < cardsOf cs → k < countOf cs i → PastBlock cs cs (placeOf cs i k) → IllSized rs cs
   held-message : (i k : ℕ) → i < cardsOf cs → k < heldCountOf cs i → PastBlock cs cs (heldBlock i k) → IllSized rs cs
   flight-message : (t : ℕ) → t < tasksOf cs → noFlight cs t ≡ false → PastBlock cs cs (flightBlock t) → IllSized rs cs
   broadcast-message : (k : ℕ) → k < madeOf cs → k < 64 → PastBlock cs cs (broadcastBlock (madeOf cs - k)) → IllSized rs cs
+  -- g: the tag of a message held or in flight
+  held-tag : (i k : ℕ) → i < cardsOf cs → k < heldCountOf cs i → 65535 < tagAt cs (heldBlock i k) → IllSized rs cs
+  flight-tag : (t : ℕ) → t < tasksOf cs → noFlight cs t ≡ false → 65535 < tagAt cs (flightBlock t) → IllSized rs cs
   -- h: broadcasts taken
   above : (i : ℕ) → i < cardsOf cs → madeOf cs < takenOf cs i → IllSized rs cs
   below : (i : ℕ) → i < cardsOf cs → takenOf cs i + 64 < madeOf cs → IllSized rs cs
@@ -59,7 +62,7 @@ pub data IllSized (rs cs : List ℕ) : Type 0 where
   outbox-head : (i : ℕ) → i < cardsOf cs → 16 ≤ outHeadOf rs i → IllSized rs cs
   inbox-head : (i : ℕ) → i < cardsOf cs → 48 ≤ headOf cs i → IllSized rs cs
   -- i: a task that is doing none of the six things
-  doing : (t : ℕ) → t < tasksOf cs → 5 < getD rs (kindWord t) 0 → IllSized rs cs
+  doing : (t : ℕ) → t < tasksOf cs → 5 < doingKindAt rs t → IllSized rs cs
   -- k: a message in flight without exactly one destination, so that there is no card that step 8 could take it to
   flight-destination : (t : ℕ) → t < tasksOf cs → noFlight cs t ≡ false → single (letterAt cs (flightBlock t) .to) ≡ false → IllSized rs cs
   -- k: a broadcast with at most one destination, which is none (RULES 6.1)

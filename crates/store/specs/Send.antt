@@ -14,7 +14,7 @@ use Rattle.store.specs.Perform.{alone}
 
 -- a message of task t on register x joins its home's outbox, and the task waits
 unfoldable pub sent : List ℕ → ℕ → ℕ → Body → ℕ → List ℕ
-sent ws t x b to = doingStored (posted ws (homeOf ws t) (letterFor (homeOf ws t) t x b to)) t Waiting
+sent ws t x b to = doingStored (posted ws (homeOf ws t) (letterFor t x b to)) t Waiting
 
 -- 22: copies lie otherwise than the step asks; 6: the message would be the 17th in the outbox (RULES 7.1)
 unfoldable pub sendReadNumber : List ℕ → ℕ → ℕ → ℕ → ℕ

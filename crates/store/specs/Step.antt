@@ -9,9 +9,7 @@ use Rattle.channel.specs.TakeBroadcast.{takeAnswer, takeMemory}
 use Rattle.channel.specs.TakeSingle.{singleAnswer, singleMemory}
 use Rattle.tables.specs.declared.Doing.the-variants.{AskingRead, AskingUpdate}
 use Rattle.commands.specs.declared.Command.{Command}
-use Rattle.commands.specs.declared.Command.the-variants.{RequestRead, RequestUpdate, Perform, SendRead, SendUpdate, Dispatch, TakeBroadcast, TakeSingle, Deliver, Report}
-use Rattle.commands.specs.declared.Decoded.{Decoded}
-use Rattle.commands.specs.declared.Decoded.the-variants.{Good, Bad}
+use Rattle.commands.specs.declared.Command.the-variants.{RequestRead, RequestUpdate, Perform, SendRead, SendUpdate, Dispatch, TakeBroadcast, TakeSingle, Deliver, Report, Refused}
 use Rattle.store.specs.Requests.{bare, requestNumber, requestWords, reportAnswer, reportWords}
 use Rattle.store.specs.Perform.{performNumber, performWords}
 use Rattle.store.specs.Send.{readSentNumber, readSentWords, updateSentNumber, updateSentWords}
@@ -40,15 +38,12 @@ taken rs cs (TakeBroadcast i) = outcome (answerNumber (takeAnswer cs i)) rs (tak
 taken rs cs (TakeSingle t) = outcome (answerNumber (singleAnswer cs t)) rs (singleMemory cs t)
 taken rs cs (Deliver i) = outcome (deliverNumber rs cs i) (deliverRegisters rs cs i) (deliverChannel rs cs i)
 taken rs cs (Report t) = record { answer = reportAnswer rs (t .0); registers = reportWords rs (t .0); channel = cs }
-
 -- 10 to 15: refused as it was decoded
-unfoldable pub obeyed : List ℕ → List ℕ → Decoded → Outcome
-obeyed rs cs (Good c) = taken rs cs c
-obeyed rs cs (Bad n) = outcome n rs cs
+taken rs cs (Refused n) = outcome n rs cs
 
 -- a step as it is given
 unfoldable pub advanced : List ℕ → List ℕ → ℕ → List ℕ → Outcome
-advanced rs cs code argument = obeyed rs cs (decodeOf code argument (cardsOf cs) (registersOf cs) (tasksOf cs))
+advanced rs cs code argument = taken rs cs (decodeOf code argument (cardsOf cs) (registersOf cs) (tasksOf cs))
 
 -- 6 for the state, then rising number, then 6 for the outcome (RULES 8.5)
 unfoldable pub stepped : List ℕ → List ℕ → ℕ → List ℕ → Outcome

@@ -32,7 +32,7 @@ fn quiet(doing: Doing) -> bool
 }
 
 // Steps 1 and 2: the quiet task now asks.
-pub(crate) fn request(registers: &mut [u32; 1544], task: Task, doing: Doing) -> u8
+pub(crate) fn request(registers: &mut [u32; 593], task: Task, doing: Doing) -> u8
     ensures registers { λ _. ⌜ now (registers .exit) ≡ requestWords (now (registers .entry)) (task .0) doing ⌝ }
     ensures number { λ r. ⌜ r ≡ requestNumber (now (registers .entry)) (task .0) ⌝ }
 {
@@ -66,7 +66,7 @@ fn report_of(doing: Doing) -> Answer
 }
 
 // Step 10: the done task becomes quiet.
-pub(crate) fn report(registers: &mut [u32; 1544], task: Task) -> Answer
+pub(crate) fn report(registers: &mut [u32; 593], task: Task) -> Answer
     ensures registers { λ _. ⌜ now (registers .exit) ≡ reportWords (now (registers .entry)) (task .0) ⌝ }
     ensures answer { λ r. ⌜ r ≡ reportAnswer (now (registers .entry)) (task .0) ⌝ }
 {

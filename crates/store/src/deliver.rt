@@ -22,11 +22,11 @@ use tables::outbox::post;
 use tables::outbox::roomy;
 
 // A card's reply to a task's card joins its outbox.
-fn reply(registers: &mut [u32; 1544], card: Card, task: Task, register: Register, body: Body)
+fn reply(registers: &mut [u32; 593], card: Card, task: Task, register: Register, body: Body)
     ensures { λ _. ⌜ now (registers .exit) ≡ replied (now (registers .entry)) (card .0) (task .0) (register .0) body ⌝ }
 {
     let to = only(home(registers, task));
-    let letter = letter_for(card, task, register, body, to);
+    let letter = letter_for(task, register, body, to);
     post(registers, card, letter);
 }
 
@@ -38,7 +38,7 @@ fn is_primary(card: Card, primary: Card) -> bool
 }
 
 // Whether a card owes the reply to an update.
-fn replies(registers: &[u32; 1544], card: Card, task: Task, register: Register) -> bool
+fn replies(registers: &[u32; 593], card: Card, task: Task, register: Register) -> bool
     ensures { λ r. ⌜ r ≡ repliesHere (now (registers .entry)) (card .0) (task .0) (register .0) ⌝ }
 {
     if !is_primary(card, primary(registers, register)) {
@@ -49,7 +49,7 @@ fn replies(registers: &[u32; 1544], card: Card, task: Task, register: Register) 
 
 // An update is applied on a card; if the task's home is here, it is done.
 fn apply(
-    registers: &mut [u32; 1544],
+    registers: &mut [u32; 593],
     card: Card,
     task: Task,
     register: Register,
@@ -67,7 +67,7 @@ fn apply(
 }
 
 // A read: a reply with the value.
-fn deliver_read(registers: &mut [u32; 1544], card: Card, task: Task, register: Register) -> u8
+fn deliver_read(registers: &mut [u32; 593], card: Card, task: Task, register: Register) -> u8
     ensures registers { λ _. ⌜ now (registers .exit) ≡ bodyWords (now (registers .entry)) (card .0) (task .0) (register .0) ReadDo ⌝ }
     ensures number { λ r. ⌜ r ≡ bodyNumber (now (registers .entry)) (card .0) (task .0) (register .0) ReadDo ⌝ }
 {
@@ -81,7 +81,7 @@ fn deliver_read(registers: &mut [u32; 1544], card: Card, task: Task, register: R
 
 // An update.
 fn deliver_update(
-    registers: &mut [u32; 1544],
+    registers: &mut [u32; 593],
     card: Card,
     task: Task,
     register: Register,
@@ -104,7 +104,7 @@ fn deliver_update(
 }
 
 // A reply: the task is done.
-fn deliver_reply(registers: &mut [u32; 1544], task: Task, doing: Doing) -> u8
+fn deliver_reply(registers: &mut [u32; 593], task: Task, doing: Doing) -> u8
     ensures registers { λ _. ⌜ now (registers .exit) ≡ doingStored (now (registers .entry)) (task .0) doing ⌝ }
     ensures number { λ r. ⌜ r ≡ 0 ⌝ }
 {
@@ -114,7 +114,7 @@ fn deliver_reply(registers: &mut [u32; 1544], task: Task, doing: Doing) -> u8
 
 // A message's body takes effect on a card.
 fn deliver_body(
-    registers: &mut [u32; 1544],
+    registers: &mut [u32; 593],
     card: Card,
     task: Task,
     register: Register,
@@ -132,7 +132,7 @@ fn deliver_body(
 }
 
 // A message takes effect on a card.
-fn deliver_message(registers: &mut [u32; 1544], card: Card, message: Message) -> u8
+fn deliver_message(registers: &mut [u32; 593], card: Card, message: Message) -> u8
     ensures registers { λ _. ⌜ now (registers .exit) ≡ messageWords (now (registers .entry)) (card .0) message ⌝ }
     ensures number { λ r. ⌜ r ≡ messageNumber (now (registers .entry)) (card .0) message ⌝ }
 {
@@ -141,7 +141,7 @@ fn deliver_message(registers: &mut [u32; 1544], card: Card, message: Message) ->
 }
 
 // What is found in the inbox takes effect on a card.
-fn deliver_found(registers: &mut [u32; 1544], card: Card, found: Received) -> u8
+fn deliver_found(registers: &mut [u32; 593], card: Card, found: Received) -> u8
     ensures registers { λ _. ⌜ now (registers .exit) ≡ foundWords (now (registers .entry)) (card .0) found ⌝ }
     ensures number { λ r. ⌜ r ≡ foundNumber (now (registers .entry)) (card .0) found ⌝ }
 {
@@ -153,7 +153,7 @@ fn deliver_found(registers: &mut [u32; 1544], card: Card, found: Received) -> u8
 }
 
 // Step 9: the channel's inbox is looked at first, and the head leaves it where the step is taken.
-pub(crate) fn deliver(registers: &mut [u32; 1544], channel: &mut [u32; 4808], card: Card) -> u8
+pub(crate) fn deliver(registers: &mut [u32; 593], channel: &mut [u32; 1364], card: Card) -> u8
     ensures registers { λ _. ⌜ now (registers .exit) ≡ deliverRegisters (now (registers .entry)) (now (channel .entry)) card ⌝ }
     ensures channel { λ _. ⌜ now (channel .exit) ≡ deliverChannel (now (registers .entry)) (now (channel .entry)) card ⌝ }
     ensures number { λ r. ⌜ r ≡ deliverNumber (now (registers .entry)) (now (channel .entry)) card ⌝ }

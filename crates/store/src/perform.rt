@@ -16,7 +16,7 @@ use tables::layout::home;
 use tables::layout::register_place;
 
 // Whether a card is the only holder of a register.
-pub(crate) fn alone(registers: &[u32; 1544], register: Register, card: Card) -> bool
+pub(crate) fn alone(registers: &[u32; 593], register: Register, card: Card) -> bool
     ensures { λ r. ⌜ r ≡ alone (now (registers .entry)) (register .0) (card .0) ⌝ }
 {
     if !holds(registers, register, card) {
@@ -25,7 +25,7 @@ pub(crate) fn alone(registers: &[u32; 1544], register: Register, card: Card) -> 
     !names::several(holders(registers, register))
 }
 
-fn perform_read(registers: &mut [u32; 1544], task: Task, register: Register) -> u8
+fn perform_read(registers: &mut [u32; 593], task: Task, register: Register) -> u8
     ensures registers { λ _. ⌜ now (registers .exit) ≡ performReadWords (now (registers .entry)) (task .0) (register .0) ⌝ }
     ensures number { λ r. ⌜ r ≡ performReadNumber (now (registers .entry)) (task .0) (register .0) ⌝ }
 {
@@ -40,7 +40,7 @@ fn perform_read(registers: &mut [u32; 1544], task: Task, register: Register) -> 
 
 // A card's copy of a register is updated.
 pub(crate) fn update_copy(
-    registers: &mut [u32; 1544],
+    registers: &mut [u32; 593],
     card: Card,
     register: Register,
     function: u32,
@@ -54,7 +54,7 @@ pub(crate) fn update_copy(
 }
 
 fn perform_update(
-    registers: &mut [u32; 1544],
+    registers: &mut [u32; 593],
     task: Task,
     register: Register,
     function: u32,
@@ -72,7 +72,7 @@ fn perform_update(
     0
 }
 
-fn perform_doing(registers: &mut [u32; 1544], task: Task, doing: Doing) -> u8
+fn perform_doing(registers: &mut [u32; 593], task: Task, doing: Doing) -> u8
     ensures registers { λ _. ⌜ now (registers .exit) ≡ performWordsOf (now (registers .entry)) (task .0) doing ⌝ }
     ensures number { λ r. ⌜ r ≡ performNumberOf (now (registers .entry)) (task .0) doing ⌝ }
 {
@@ -87,7 +87,7 @@ fn perform_doing(registers: &mut [u32; 1544], task: Task, doing: Doing) -> u8
 }
 
 // Step 3.
-pub(crate) fn perform(registers: &mut [u32; 1544], task: Task) -> u8
+pub(crate) fn perform(registers: &mut [u32; 593], task: Task) -> u8
     ensures registers { λ _. ⌜ now (registers .exit) ≡ performWords (now (registers .entry)) (task .0) ⌝ }
     ensures number { λ r. ⌜ r ≡ performNumber (now (registers .entry)) (task .0) ⌝ }
 {

@@ -20,8 +20,8 @@ use tables::outbox::post;
 use tables::outbox::roomy;
 
 // A message of a task on a register.
-pub(crate) fn letter_for(from: Card, task: Task, register: Register, body: Body, to: u32) -> Letter
-    ensures { λ r. ⌜ r ≡ letterFor (from .0) (task .0) (register .0) body to ⌝ }
+pub(crate) fn letter_for(task: Task, register: Register, body: Body, to: u32) -> Letter
+    ensures { λ r. ⌜ r ≡ letterFor (task .0) (register .0) body to ⌝ }
 {
     let message = Message {
         task: task,
@@ -30,23 +30,22 @@ pub(crate) fn letter_for(from: Card, task: Task, register: Register, body: Body,
     };
     Letter {
         message: message,
-        from: from,
         to: to,
     }
 }
 
 // The message joins the outbox of the task's home, and the task waits.
-fn send(registers: &mut [u32; 1544], task: Task, register: Register, body: Body, to: u32)
+fn send(registers: &mut [u32; 593], task: Task, register: Register, body: Body, to: u32)
     ensures { λ _. ⌜ now (registers .exit) ≡ sent (now (registers .entry)) (task .0) (register .0) body to ⌝ }
 {
     let here = home(registers, task);
-    let letter = letter_for(here, task, register, body, to);
+    let letter = letter_for(task, register, body, to);
     post(registers, here, letter);
     store(registers, task, Doing::Waiting);
 }
 
 // 0, or why a read is not sent to a chosen card.
-fn may_send_read(registers: &[u32; 1544], task: Task, chosen: Card, register: Register) -> u8
+fn may_send_read(registers: &[u32; 593], task: Task, chosen: Card, register: Register) -> u8
     ensures { λ r. ⌜ r ≡ sendReadNumber (now (registers .entry)) (task .0) (chosen .0) (register .0) ⌝ }
 {
     let here = home(registers, task);
@@ -62,7 +61,7 @@ fn may_send_read(registers: &[u32; 1544], task: Task, chosen: Card, register: Re
     0
 }
 
-fn send_read_of(registers: &mut [u32; 1544], task: Task, chosen: Card, register: Register) -> u8
+fn send_read_of(registers: &mut [u32; 593], task: Task, chosen: Card, register: Register) -> u8
     ensures registers { λ _. ⌜ now (registers .exit) ≡ sendReadWords (now (registers .entry)) (task .0) (chosen .0) (register .0) ⌝ }
     ensures number { λ r. ⌜ r ≡ sendReadNumber (now (registers .entry)) (task .0) (chosen .0) (register .0) ⌝ }
 {
@@ -75,7 +74,7 @@ fn send_read_of(registers: &mut [u32; 1544], task: Task, chosen: Card, register:
 }
 
 // 0, or why an update is not sent.
-fn may_send_update(registers: &[u32; 1544], task: Task, register: Register) -> u8
+fn may_send_update(registers: &[u32; 593], task: Task, register: Register) -> u8
     ensures { λ r. ⌜ r ≡ sendUpdateNumber (now (registers .entry)) (task .0) (register .0) ⌝ }
 {
     let here = home(registers, task);
@@ -92,7 +91,7 @@ fn may_send_update(registers: &[u32; 1544], task: Task, register: Register) -> u
 }
 
 fn send_update_of(
-    registers: &mut [u32; 1544],
+    registers: &mut [u32; 593],
     task: Task,
     register: Register,
     function: u32,
@@ -116,7 +115,7 @@ fn send_update_of(
     number
 }
 
-fn send_read_doing(registers: &mut [u32; 1544], task: Task, chosen: Card, doing: Doing) -> u8
+fn send_read_doing(registers: &mut [u32; 593], task: Task, chosen: Card, doing: Doing) -> u8
     ensures registers { λ _. ⌜ now (registers .exit) ≡ readWordsOf (now (registers .entry)) (task .0) (chosen .0) doing ⌝ }
     ensures number { λ r. ⌜ r ≡ readNumberOf (now (registers .entry)) (task .0) (chosen .0) doing ⌝ }
 {
@@ -130,7 +129,7 @@ fn send_read_doing(registers: &mut [u32; 1544], task: Task, chosen: Card, doing:
     }
 }
 
-fn send_update_doing(registers: &mut [u32; 1544], task: Task, doing: Doing) -> u8
+fn send_update_doing(registers: &mut [u32; 593], task: Task, doing: Doing) -> u8
     ensures registers { λ _. ⌜ now (registers .exit) ≡ updateWordsOf (now (registers .entry)) (task .0) doing ⌝ }
     ensures number { λ r. ⌜ r ≡ updateNumberOf (now (registers .entry)) (task .0) doing ⌝ }
 {
@@ -145,7 +144,7 @@ fn send_update_doing(registers: &mut [u32; 1544], task: Task, doing: Doing) -> u
 }
 
 // Step 4.
-pub(crate) fn send_read(registers: &mut [u32; 1544], task: Task, chosen: Card) -> u8
+pub(crate) fn send_read(registers: &mut [u32; 593], task: Task, chosen: Card) -> u8
     ensures registers { λ _. ⌜ now (registers .exit) ≡ readSentWords (now (registers .entry)) (task .0) (chosen .0) ⌝ }
     ensures number { λ r. ⌜ r ≡ readSentNumber (now (registers .entry)) (task .0) (chosen .0) ⌝ }
 {
@@ -154,7 +153,7 @@ pub(crate) fn send_read(registers: &mut [u32; 1544], task: Task, chosen: Card) -
 }
 
 // Step 5.
-pub(crate) fn send_update(registers: &mut [u32; 1544], task: Task) -> u8
+pub(crate) fn send_update(registers: &mut [u32; 593], task: Task) -> u8
     ensures registers { λ _. ⌜ now (registers .exit) ≡ updateSentWords (now (registers .entry)) (task .0) ⌝ }
     ensures number { λ r. ⌜ r ≡ updateSentNumber (now (registers .entry)) (task .0) ⌝ }
 {

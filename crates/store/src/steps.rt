@@ -1,6 +1,6 @@
 // A step as it is given.
 ghost use mathlib.Core.Path.{_≡_};
-ghost use Rattle.store.specs.Step.{outcome, taken, obeyed, advanced, stepped};
+ghost use Rattle.store.specs.Step.{outcome, taken, advanced, stepped};
 use super::asking::bare;
 use super::asking::report;
 use super::asking::request;
@@ -11,14 +11,13 @@ use super::send::send_update;
 use super::traffic::dispatch;
 use super::traffic::number_of;
 use commands::Command;
-use commands::Decoded;
 use commands::decode;
 use names::Answer;
 use tables::Doing;
 use tables::sized::well_sized;
 
 // A decoded step.
-fn take(registers: &mut [u32; 1544], channel: &mut [u32; 4808], command: Command) -> Answer
+fn take(registers: &mut [u32; 593], channel: &mut [u32; 1364], command: Command) -> Answer
     ensures registers { λ _. ⌜ now (registers .exit) ≡ taken (now (registers .entry)) (now (channel .entry)) command .registers ⌝ }
     ensures channel { λ _. ⌜ now (channel .exit) ≡ taken (now (registers .entry)) (now (channel .entry)) command .channel ⌝ }
     ensures answer { λ r. ⌜ r ≡ taken (now (registers .entry)) (now (channel .entry)) command .answer ⌝ }
@@ -38,24 +37,14 @@ fn take(registers: &mut [u32; 1544], channel: &mut [u32; 4808], command: Command
         Command::TakeSingle(t) => bare(number_of(channel::take_single(channel, t))),
         Command::Deliver(i) => bare(deliver(registers, channel, i)),
         Command::Report(t) => report(registers, t),
-    }
-}
-
-fn obey(registers: &mut [u32; 1544], channel: &mut [u32; 4808], decoded: Decoded) -> Answer
-    ensures registers { λ _. ⌜ now (registers .exit) ≡ obeyed (now (registers .entry)) (now (channel .entry)) decoded .registers ⌝ }
-    ensures channel { λ _. ⌜ now (channel .exit) ≡ obeyed (now (registers .entry)) (now (channel .entry)) decoded .channel ⌝ }
-    ensures answer { λ r. ⌜ r ≡ obeyed (now (registers .entry)) (now (channel .entry)) decoded .answer ⌝ }
-{
-    match decoded {
-        Decoded::Good(command) => take(registers, channel, command),
-        Decoded::Bad(n) => bare(n),
+        Command::Refused(n) => bare(n),
     }
 }
 
 // A step on memories that need not be checked again: a run of many steps checks once, for each step keeps them well sized.
 pub fn advance(
-    registers: &mut [u32; 1544],
-    channel: &mut [u32; 4808],
+    registers: &mut [u32; 593],
+    channel: &mut [u32; 1364],
     code: u8,
     argument: [u8; 8],
 ) -> Answer
@@ -66,14 +55,14 @@ pub fn advance(
     let cards = channel::cards(channel);
     let count = channel::registers(channel);
     let tasks = channel::tasks(channel);
-    let decoded = decode(code, argument, cards, count, tasks);
-    obey(registers, channel, decoded)
+    let command = decode(code, argument, cards, count, tasks);
+    take(registers, channel, command)
 }
 
 // A step: 6 unless both memories are well sized.
 pub fn step(
-    registers: &mut [u32; 1544],
-    channel: &mut [u32; 4808],
+    registers: &mut [u32; 593],
+    channel: &mut [u32; 1364],
     code: u8,
     argument: [u8; 8],
 ) -> Answer

@@ -1,6 +1,7 @@
 -- What each change of the registers' memory does to what it shows, and that it keeps it well sized
 pub mod Words
 pub mod Showing
+pub mod AskedFits
 pub mod Sizing
 -- What a panel shows, and where the copies lie, said apart
 pub mod PanelMeaning

@@ -1,5 +1,5 @@
 -- The panel's definitions read the words that the memories show (specs/Shows).
-use Prim.Native.Nat.{ℕ, _+_, _*_, _%_, _<_, _≤_}
+use Prim.Native.Nat.{ℕ, _+_, _*_, _/_, _%_, _<_, _≤_}
 use mathlib.Core.Path.{_≡_, refl, sym, ap, _∙_}
 use mathlib.Core.Bool.{Bool, true, false, cond, _&&_}
 use mathlib.Core.Logic.{_⊎_, inl, inr}
@@ -14,11 +14,11 @@ use Rattle.names.specs.declared.Register.{Register}
 use Rattle.names.specs.Placement.{Placement, tasks, registers}
 use Rattle.channel.specs.Layout.{cardsOf, tasksOf, registersOf}
 use Rattle.claims.specs.Published.{Published, quiet}
-use Rattle.tables.specs.Layout.{copyWord, copyOf}
-use Rattle.tables.specs.Doings.{doingAt}
+use Rattle.tables.specs.Layout.{copyWord, homeIn, primaryIn, holdersIn, copyOf}
+use Rattle.tables.specs.Doings.{doingKind, doingRegister, doingFunction, doingKindIn, askedIn, doingFunctionIn, taskWordOf, doingAt}
 use Rattle.tables.specs.Panel.{valueShown, doingShown}
 use Rattle.tables.specs.Shows.{statusOf, StoreShows}
-use Rattle.tables.specs.PanelMeaning.{PanelMeaning, CardAfterCard}
+use Rattle.tables.specs.PanelMeaning.{PanelMeaning, CardAfterCard, FieldsMean, FieldsComputed}
 
 and-false : (b : Bool) → (b && false) ≡ false
 and-false true = refl
@@ -57,4 +57,34 @@ panel-meaning rs cs P s v = record {
     past i x (inr q) = inr (rw (← v .registers=) q)
 
 pub card-after-card : CardAfterCard
-card-after-card rs i x p q = let e : copyWord i x ≡ 200 + 32 * i + x = omega arith in ap (λ k. getD rs k 0) e
+card-after-card rs i x p q = let e : copyWord i x ≡ 65 + 32 * i + x = omega arith in ap (λ k. getD rs k 0) e
+
+-- ---- the digits of a word
+
+module _ (w : ℕ) where
+  after-kind : w ≡ w % 8 + 8 * (w / 8)
+  after-kind = omega arith
+
+  after-asked : w / 8 ≡ w / 8 % 32 + 32 * (w / 256)
+  after-asked = omega arith
+
+  after-function : w / 256 ≡ w / 256 % 8 + 8 * (w / 2048)
+  after-function = omega arith
+
+all-digits : (w a b h k x f : ℕ) → w ≡ k + 8 * a → a ≡ x + 32 * b → b ≡ f + 8 * h → w ≡ k + 8 * x + 256 * f + 2048 * h
+all-digits w a b h k x f p q r = omega arith
+
+pub fields-mean : FieldsMean
+unfolding doingKindIn askedIn doingFunctionIn homeIn primaryIn holdersIn
+fields-mean = record {
+  task = λ w. all-digits w (w / 8) (w / 256) (w / 2048) _ _ _ (after-kind w) (after-asked w) (after-function w);
+  kind = λ w. omega arith;
+  asked = λ w. omega arith;
+  function = λ w. omega arith;
+  register = after-kind;
+  primary = λ w. omega arith;
+}
+
+pub fields-computed : FieldsComputed
+unfolding taskWordOf doingKind doingRegister doingFunction homeIn primaryIn holdersIn
+fields-computed = record { asks = refl; quiet-at-home = refl; homeIn-asks = refl; primaryIn-placed = refl; holdersIn-placed = refl }

@@ -1,6 +1,6 @@
 -- Well-sizedness of the registers' memory, place by place, and that each change of it keeps it.
 use Prim.Native.Nat.{ℕ, suc, _+_, _*_, _%_, _<_, _≤_, _^_, min}
-use mathlib.Core.Path.{_≡_, _∙_}
+use mathlib.Core.Path.{_≡_, ap, _∙_}
 use mathlib.Core.Logic.{_≢_}
 use mathlib.Core.Bool.{true, _&&_}
 use mathlib.Core.List.{List}
@@ -14,21 +14,22 @@ use Rattle.lists.specs.Tests.{and-intro, and-fst, and-snd}
 use Rattle.lists.specs.Conjunctions.{and-three, and-four}
 use Rattle.lists.specs.Every.{each, each-at, each-of}
 use Rattle.names.specs.declared.Letter.{Letter}
+use Rattle.names.specs.Letters.{packetOf}
 use Rattle.channel.specs.Layout.{cardsOf, tasksOf, registersOf}
 use Rattle.channel.specs.Letters.{fits}
-use Rattle.channel.proofs.Offered.{block-words, put-fits}
+use Rattle.channel.proofs.Offered.{block-words, put-fits, carried-fits}
 use Rattle.tables.specs.declared.Doing.{Doing}
-use Rattle.tables.specs.declared.Doing.the-variants.{Quiet, AskingRead, AskingUpdate, Waiting, DoneRead, DoneUpdate}
-use Rattle.tables.specs.Layout.{requestsWord, homeWord, kindWord, holdersWord, primaryWord, copyWord, outHeadWord, outCountWord, requestsOf, homeOf, holdersOf, primaryOf}
-use Rattle.tables.specs.Doings.{doingKind, doingAt, doingStored}
+use Rattle.tables.specs.Layout.{requestsWord, taskWord, registerWord, copyWord, outHeadWord, outCountWord, requestsOf, homeIn, homeOf, holdersIn, primaryIn, holdersOf, primaryOf}
+use Rattle.tables.specs.Doings.{doingAt, doingStored}
 use Rattle.tables.specs.Outbox.{outHeadOf, outCountOf, outPlace, posted, unposted}
-use Rattle.tables.specs.Sized.{doingFits, taskFits, registerFits, outFits, outboxFits, registersSized}
-use Rattle.tables.proofs.Words.{last, doing-cong, doing-word, doing-kind, doing-same, doing-other, posted-word, posted-count, posted-head, posted-block, unposted-word, unposted-count, unposted-head, unposted-place}
+use Rattle.tables.specs.Sized.{doingKindAt, doingFits, taskFits, registerFits, outFits, outboxFits, registersSized}
+use Rattle.tables.proofs.AskedFits.{doing-packs}
+use Rattle.tables.proofs.Words.{last, kind-most, doing-cong, doing-word, doing-kind, doing-home, doing-same, doing-other, posted-word, posted-count, posted-head, posted-block, unposted-word, unposted-count, unposted-head, unposted-place}
 
 pub record RegistersFit (rs cs : List ℕ) : Type 0 where
   pub requests : requestsOf rs ≤ 65535
   pub home : (t : ℕ) → t < tasksOf cs → homeOf rs t < cardsOf cs
-  pub kind : (t : ℕ) → t < tasksOf cs → getD rs (kindWord t) 0 ≤ 5
+  pub kind : (t : ℕ) → t < tasksOf cs → doingKindAt rs t ≤ 5
   pub doing : (t : ℕ) → t < tasksOf cs → doingFits cs (doingAt rs t) ≡ true
   pub holders : (x : ℕ) → x < registersOf cs → holdersOf rs x < 2 ^ cardsOf cs
   pub primary : (x : ℕ) → x < registersOf cs → primaryOf rs x < cardsOf cs
@@ -40,8 +41,8 @@ pub fit-of : (rs cs : List ℕ) → registersSized rs cs ≡ true → RegistersF
 unfolding registersSized taskFits registerFits outboxFits
 fit-of rs cs e =
     let u = and-four (leb (requestsOf rs) 65535) (each (tasksOf cs) (taskFits rs cs)) (each (registersOf cs) (registerFits rs cs)) (each (cardsOf cs) (outboxFits rs cs)) e in
-    let t : (t : ℕ) → t < tasksOf cs → (ltb (homeOf rs t) (cardsOf cs) ≡ true) × (leb (getD rs (kindWord t) 0) 5 ≡ true) × (doingFits cs (doingAt rs t) ≡ true) =
-    λ t h. and-three (ltb (homeOf rs t) (cardsOf cs)) (leb (getD rs (kindWord t) 0) 5) (doingFits cs (doingAt rs t)) (each-at (tasksOf cs) (taskFits rs cs) (u .1) t h) in
+    let t : (t : ℕ) → t < tasksOf cs → (ltb (homeOf rs t) (cardsOf cs) ≡ true) × (leb (doingKindAt rs t) 5 ≡ true) × (doingFits cs (doingAt rs t) ≡ true) =
+    λ t h. and-three (ltb (homeOf rs t) (cardsOf cs)) (leb (doingKindAt rs t) 5) (doingFits cs (doingAt rs t)) (each-at (tasksOf cs) (taskFits rs cs) (u .1) t h) in
     let r : (x : ℕ) → x < registersOf cs → (ltb (holdersOf rs x) (2 ^ cardsOf cs) && ltb (primaryOf rs x) (cardsOf cs)) ≡ true =
     λ x h. each-at (registersOf cs) (registerFits rs cs) (u .2) x h in
     let o : (i : ℕ) → i < cardsOf cs → (ltb (outHeadOf rs i) 16 ≡ true) × (leb (outCountOf rs i) 16 ≡ true) × (each (min (outCountOf rs i) 16) (outFits rs cs i) ≡ true) =
@@ -72,17 +73,8 @@ of-fit rs cs f =
 
 -- ---- changes
 
-kind-most : (d : Doing) → doingKind d ≤ 5
-unfolding doingKind
-kind-most Quiet = omega arith
-kind-most (AskingRead x) = omega arith
-kind-most (AskingUpdate x f w) = omega arith
-kind-most Waiting = omega arith
-kind-most (DoneRead v) = omega arith
-kind-most DoneUpdate = omega arith
-
 -- the words of card i's outbox agree
-module _ (us ws cs : List ℕ) (i : ℕ) (e : (a : ℕ) → outHeadWord i ≤ a → a < outHeadWord i + 136 → getD us a 0 ≡ getD ws a 0) where
+module _ (us ws cs : List ℕ) (i : ℕ) (e : (a : ℕ) → outHeadWord i ≤ a → a < outHeadWord i + 34 → getD us a 0 ≡ getD ws a 0) where
   out-words : (k : ℕ) → outFits us cs i k ≡ outFits ws cs i k
   unfolding outFits
   out-words k =
@@ -95,15 +87,15 @@ module _ (us ws cs : List ℕ) (i : ℕ) (e : (a : ℕ) → outHeadWord i ≤ a 
   count-words : outCountOf us i ≡ outCountOf ws i
   count-words = e (outCountWord i) (omega arith) (omega arith)
 
-module _ (ws cs : List ℕ) (c8 : cardsOf cs ≤ 8) (t16 : tasksOf cs ≤ 16) (r32 : registersOf cs ≤ 32) (long : length ws ≡ 1544) (f : RegistersFit ws cs) where
+module _ (ws cs : List ℕ) (c8 : cardsOf cs ≤ 8) (t16 : tasksOf cs ≤ 16) (r32 : registersOf cs ≤ 32) (long : length ws ≡ 593) (f : RegistersFit ws cs) where
   -- only words below the outboxes changed
   below : (us : List ℕ) → requestsOf us ≤ 65535
       → ((t : ℕ) → t < tasksOf cs → homeOf us t ≡ homeOf ws t)
-      → ((t : ℕ) → t < tasksOf cs → getD us (kindWord t) 0 ≤ 5)
+      → ((t : ℕ) → t < tasksOf cs → doingKindAt us t ≤ 5)
       → ((t : ℕ) → t < tasksOf cs → doingFits cs (doingAt us t) ≡ true)
       → ((x : ℕ) → x < registersOf cs → holdersOf us x ≡ holdersOf ws x)
       → ((x : ℕ) → x < registersOf cs → primaryOf us x ≡ primaryOf ws x)
-      → ((a : ℕ) → 456 ≤ a → getD us a 0 ≡ getD ws a 0) → RegistersFit us cs
+      → ((a : ℕ) → 321 ≤ a → getD us a 0 ≡ getD ws a 0) → RegistersFit us cs
   below us n h k d s p o = record {
     requests = n;
     home = λ t g. rw (h t g) (f .home t g);
@@ -119,55 +111,55 @@ module _ (ws cs : List ℕ) (c8 : cardsOf cs ≤ 8) (t16 : tasksOf cs ≤ 16) (r
   pub requests-fit : (n : ℕ) → n ≤ 65535 → RegistersFit (set ws requestsWord n) cs
   requests-fit n m =
       below (set ws 0 n) (rw (getD-set-same ws 0 n 0 (omega arith)) m)
-      (λ t h. getD-set-other ws 0 _ n 0 (omega arith))
-      (λ t h. rw (getD-set-other ws 0 (kindWord t) n 0 (omega arith)) (f .kind t h))
-      (λ t h. rw (doing-cong (set ws 0 n) ws t (λ k p q. getD-set-other ws 0 _ n 0 (omega arith))) (f .doing t h))
-      (λ x h. getD-set-other ws 0 _ n 0 (omega arith))
-      (λ x h. getD-set-other ws 0 _ n 0 (omega arith))
+      (λ t h. ap homeIn (getD-set-other ws 0 (taskWord t) n 0 (omega arith)))
+      (λ t h. rw (getD-set-other ws 0 (taskWord t) n 0 (omega arith)) (f .kind t h))
+      (λ t h. rw (doing-cong (set ws 0 n) ws t (λ k p. getD-set-other ws 0 (taskWord t + k) n 0 (omega arith))) (f .doing t h))
+      (λ x h. ap holdersIn (getD-set-other ws 0 (registerWord x) n 0 (omega arith)))
+      (λ x h. ap primaryIn (getD-set-other ws 0 (registerWord x) n 0 (omega arith)))
       (λ a h. getD-set-other ws 0 a n 0 (omega arith))
 
   pub doing-fit : (t : ℕ) → t < tasksOf cs → (d : Doing) → doingFits cs d ≡ true → RegistersFit (doingStored ws t d) cs
   doing-fit t b d e =
-      below (doingStored ws t d) (rw (doing-word ws t d 0 (λ k p q. omega arith)) (f .requests))
-      (λ u h. doing-word ws t d _ (λ k p q. omega arith))
+      below (doingStored ws t d) (rw (doing-word ws t d 0 (λ k p. omega arith)) (f .requests))
+      (λ u h. doing-home ws t d long u)
       (λ u h. kinds u h (ℕ-discrete u t))
       (λ u h. doings u h (ℕ-discrete u t))
-      (λ x h. doing-word ws t d _ (λ k p q. omega arith))
-      (λ x h. doing-word ws t d _ (λ k p q. omega arith))
-      (λ a h. doing-word ws t d a (λ k p q. omega arith))
+      (λ x h. ap holdersIn (doing-word ws t d (registerWord x) (λ k p. omega arith)))
+      (λ x h. ap primaryIn (doing-word ws t d (registerWord x) (λ k p. omega arith)))
+      (λ a h. doing-word ws t d a (λ k p. omega arith))
     where
-      kinds : (u : ℕ) → u < tasksOf cs → Dec (u ≡ t) → getD (doingStored ws t d) (kindWord u) 0 ≤ 5
+      kinds : (u : ℕ) → u < tasksOf cs → Dec (u ≡ t) → doingKindAt (doingStored ws t d) u ≤ 5
       kinds u h (yes q) = rw (q, doing-kind ws t d long) (kind-most d)
-      kinds u h (no n) = rw (doing-word ws t d (kindWord u) (λ k p q. omega arith)) (f .kind u h)
+      kinds u h (no n) = rw (doing-word ws t d (taskWord u) (λ k p. omega arith)) (f .kind u h)
 
       doings : (u : ℕ) → u < tasksOf cs → Dec (u ≡ t) → doingFits cs (doingAt (doingStored ws t d) u) ≡ true
-      doings u h (yes q) = rw (q, doing-same ws t d long) e
+      doings u h (yes q) = rw (q, doing-same ws t d long (doing-packs cs d e)) e
       doings u h (no n) = rw (doing-other ws t d u (omega arith)) (f .doing u h)
 
   pub copy-fit : (i x n : ℕ) → RegistersFit (set ws (copyWord i x) n) cs
   copy-fit i x n =
       below (set ws (copyWord i x) n) (rw (left 0 (omega arith)) (f .requests))
-      (λ t h. left _ (omega arith))
-      (λ t h. rw (left (kindWord t) (omega arith)) (f .kind t h))
-      (λ t h. rw (doing-cong (set ws (copyWord i x) n) ws t (λ k p q. left _ (omega arith))) (f .doing t h))
-      (λ y h. left _ (omega arith))
-      (λ y h. left _ (omega arith))
+      (λ t h. ap homeIn (left (taskWord t) (omega arith)))
+      (λ t h. rw (left (taskWord t) (omega arith)) (f .kind t h))
+      (λ t h. rw (doing-cong (set ws (copyWord i x) n) ws t (λ k p. left (taskWord t + k) (omega arith))) (f .doing t h))
+      (λ y h. ap holdersIn (left (registerWord y) (omega arith)))
+      (λ y h. ap primaryIn (left (registerWord y) (omega arith)))
       (λ a h. getD-set-other ws (copyWord i x) a n 0 (omega arith))
     where
-      left : (a : ℕ) → a < 200 → getD (set ws (copyWord i x) n) a 0 ≡ getD ws a 0
+      left : (a : ℕ) → a < 65 → getD (set ws (copyWord i x) n) a 0 ≡ getD ws a 0
       left a h = getD-set-other ws (copyWord i x) a n 0 (omega arith)
 
   -- only card i's outbox changed
-  outbox : (us : List ℕ) (i : ℕ) → i < cardsOf cs → ((a : ℕ) → a < 456 → getD us a 0 ≡ getD ws a 0)
-      → ((j a : ℕ) → j < cardsOf cs → j ≢ i → outHeadWord j ≤ a → a < outHeadWord j + 136 → getD us a 0 ≡ getD ws a 0)
+  outbox : (us : List ℕ) (i : ℕ) → i < cardsOf cs → ((a : ℕ) → a < 321 → getD us a 0 ≡ getD ws a 0)
+      → ((j a : ℕ) → j < cardsOf cs → j ≢ i → outHeadWord j ≤ a → a < outHeadWord j + 34 → getD us a 0 ≡ getD ws a 0)
       → outHeadOf us i < 16 → outCountOf us i ≤ 16 → ((k : ℕ) → k < outCountOf us i → outFits us cs i k ≡ true) → RegistersFit us cs
   outbox us i b l o hd ct fs = record {
     requests = rw (l 0 (omega arith)) (f .requests);
-    home = λ t h. rw (l (homeWord t) (omega arith)) (f .home t h);
-    kind = λ t h. rw (l (kindWord t) (omega arith)) (f .kind t h);
-    doing = λ t h. rw (doing-cong us ws t (λ k p q. l _ (omega arith))) (f .doing t h);
-    holders = λ x h. rw (l (holdersWord x) (omega arith)) (f .holders x h);
-    primary = λ x h. rw (l (primaryWord x) (omega arith)) (f .primary x h);
+    home = λ t h. rw (l (taskWord t) (omega arith)) (f .home t h);
+    kind = λ t h. rw (l (taskWord t) (omega arith)) (f .kind t h);
+    doing = λ t h. rw (doing-cong us ws t (λ k p. l (taskWord t + k) (omega arith))) (f .doing t h);
+    holders = λ x h. rw (l (registerWord x) (omega arith)) (f .holders x h);
+    primary = λ x h. rw (l (registerWord x) (omega arith)) (f .primary x h);
     head = λ j h. heads j h (ℕ-discrete j i);
     count = λ j h. counts j h (ℕ-discrete j i);
     out = λ j k h g. outs j k h g (ℕ-discrete j i);
@@ -191,7 +183,7 @@ module _ (ws cs : List ℕ) (c8 : cardsOf cs ≤ 8) (t16 : tasksOf cs ≤ 16) (r
     unfolding outFits
     new-fits =
         rw (posted-head ws i l long room)
-        (put-fits cs (posted ws i l) ws (last ws i l long room) l 0 good (omega arith) (posted-block ws i l long room) (omega arith))
+        (put-fits cs (posted ws i l) ws (last ws i l long room) (packetOf l) (carried-fits cs l good) (omega arith) (posted-block ws i l long room))
 
     old-fits : (k : ℕ) → k < outCountOf ws i → outFits (posted ws i l) cs i k ≡ true
     unfolding outFits
@@ -207,7 +199,7 @@ module _ (ws cs : List ℕ) (c8 : cardsOf cs ≤ 8) (t16 : tasksOf cs ≤ 16) (r
         (rw (posted-count ws i l long room) (omega arith))
         (λ k h. places k (rw (posted-count ws i l long room) at h) (ℕ-discrete k (outCountOf ws i)))
       where
-        apart : (j a : ℕ) → j < cardsOf cs → j ≢ i → outHeadWord j ≤ a → a < outHeadWord j + 136 → Dec (j < i) → getD (posted ws i l) a 0 ≡ getD ws a 0
+        apart : (j a : ℕ) → j < cardsOf cs → j ≢ i → outHeadWord j ≤ a → a < outHeadWord j + 34 → Dec (j < i) → getD (posted ws i l) a 0 ≡ getD ws a 0
         apart j a h n m r (yes z) =
             let ei : i % 8 ≡ i = omega arith in
             let ej : j % 8 ≡ j = omega arith in

@@ -1,6 +1,6 @@
--- What a task is doing (RULES 1.8; 000 Figure 5: status(c)), in four words: kind, register, function, value. A kind past the last counts as
--- the last (11.9).
-use Prim.Native.Nat.{ℕ, zero, suc}
+-- What a task is doing (RULES 1.8; 000 Figure 5: status(c)), in two words (11.12): kind, register and function in one, from its lowest digit on
+-- and below the task's home; the value in the other. A kind past the last counts as the last (11.9).
+use Prim.Native.Nat.{ℕ, zero, suc, _+_, _*_, _/_, _%_, _<_}
 use mathlib.Core.Bool.{Bool, true, false, cond}
 use mathlib.Core.List.{List}
 use lib.Dec.{eqb}
@@ -8,7 +8,7 @@ use lib.ListN.{getD, set}
 use Rattle.names.specs.declared.Register.{Register}
 use Rattle.tables.specs.declared.Doing.{Doing}
 use Rattle.tables.specs.declared.Doing.the-variants.{Quiet, AskingRead, AskingUpdate, Waiting, DoneRead, DoneUpdate}
-use Rattle.tables.specs.Layout.{kindWord, askedWord, functionWord, valueWord}
+use Rattle.tables.specs.Layout.{taskWord, valueWord, homeOf}
 
 unfoldable pub doingOf : ℕ → Register → ℕ → ℕ → Doing
 doingOf k x f v =
@@ -50,16 +50,33 @@ doingValue Waiting = 0
 doingValue (DoneRead v) = v
 doingValue DoneUpdate = 0
 
+-- the fields of a task's first word
+unfoldable pub doingKindIn : ℕ → ℕ
+doingKindIn w = w % 8
+
+unfoldable pub askedIn : ℕ → ℕ
+askedIn w = w / 8 % 32
+
+unfoldable pub doingFunctionIn : ℕ → ℕ
+doingFunctionIn w = w / 256 % 8
+
+-- the word of a task with home h that does d; a field past its room is cut to it, which nothing that a task asks for needs (DoingPacks)
+unfoldable pub taskWordOf : ℕ → Doing → ℕ
+taskWordOf h d = doingKind d % 8 + doingRegister d % 32 * 8 + doingFunction d % 8 * 256 + h * 2048
+
+-- what a task asks for has room in its word
+pub record DoingPacks (d : Doing) : Type 0 where
+  pub register : doingRegister d < 32
+  pub function : doingFunction d < 8
+
+-- what a task with this first word and this value is doing
+unfoldable pub doingIn : ℕ → ℕ → Doing
+doingIn w v = doingOf (doingKindIn w) (record { 0 = askedIn w }) (doingFunctionIn w) v
+
 -- what task t is doing
-unfoldable pub doingAt : List ℕ → ℕ → Doing
-doingAt ws t =
-    doingOf (getD ws (kindWord t) 0) (record { 0 = getD ws (askedWord t) 0 }) (getD ws (functionWord t) 0) (getD ws (valueWord t) 0)
+abbrev pub doingAt : List ℕ → ℕ → Doing
+doingAt ws t = doingIn (getD ws (taskWord t) 0) (getD ws (valueWord t) 0)
 
 -- task t now does d
 unfoldable pub doingStored : List ℕ → ℕ → Doing → List ℕ
-doingStored ws t d =
-    set (set (set (set ws
-    (kindWord t) (doingKind d))
-    (askedWord t) (doingRegister d))
-    (functionWord t) (doingFunction d))
-    (valueWord t) (doingValue d)
+doingStored ws t d = set (set ws (taskWord t) (taskWordOf (homeOf ws t) d)) (valueWord t) (doingValue d)

@@ -1,4 +1,4 @@
--- A card's outbox, a ring of 16 blocks, first in, first out (RULES 5.11), for at most 16 messages (7.1).
+-- A card's outbox, a ring of 16 packets, first in, first out (RULES 5.11), for at most 16 messages (7.1).
 use Prim.Native.Nat.{ℕ, zero, suc, _+_, _-_, _*_, _%_}
 use mathlib.Core.Bool.{Bool, true, false, cond}
 use mathlib.Core.List.{List}
@@ -6,7 +6,7 @@ use lib.Dec.{eqb, ltb}
 use lib.ListN.{getD, set}
 use Rattle.names.specs.declared.Body.{Body}
 use Rattle.names.specs.declared.Letter.{Letter}
-use Rattle.names.specs.Letters.{letterAt}
+use Rattle.names.specs.Letters.{packetOf, letterAt}
 use Rattle.names.specs.Rings.{joined, headGone}
 use Rattle.tables.specs.Layout.{outHeadWord, outCountWord, outBlock}
 
@@ -18,7 +18,7 @@ outHeadOf ws i = getD ws (outHeadWord i) 0
 abbrev pub outCountOf : List ℕ → ℕ → ℕ
 outCountOf ws i = getD ws (outCountWord i) 0
 
--- the block of place k of card i's outbox, oldest first
+-- where place k of card i's outbox lies, oldest first
 abbrev pub outPlace : List ℕ → ℕ → ℕ → ℕ
 outPlace ws i k = outBlock i (outHeadOf ws i % 16 + k)
 
@@ -28,7 +28,7 @@ roomy ws i = ltb (outCountOf ws i) 16
 
 -- one letter more at the end of card i's outbox, where there is room
 unfoldable pub posted : List ℕ → ℕ → Letter → List ℕ
-posted ws i l = joined ws (outCountWord i) (outPlace ws i (outCountOf ws i)) 16 l
+posted ws i l = joined ws (outCountWord i) (outPlace ws i (outCountOf ws i)) 16 (packetOf l)
 
 -- the first letter of card i's outbox
 unfoldable pub firstOut : List ℕ → ℕ → Letter
@@ -38,10 +38,9 @@ firstOut ws i = letterAt ws (outBlock i (outHeadOf ws i))
 unfoldable pub unposted : List ℕ → ℕ → List ℕ
 unposted ws i = headGone ws (outHeadWord i) (outCountWord i) 16
 
--- a message of task t on register x, from card i to a set of cards
-abbrev pub letterFor : ℕ → ℕ → ℕ → Body → ℕ → Letter
-letterFor i t x b to = record {
+-- a message of task t on register x to a set of cards
+abbrev pub letterFor : ℕ → ℕ → Body → ℕ → Letter
+letterFor t x b to = record {
   message = record { task = record { 0 = t }; register = record { 0 = x }; body = b };
-  from = record { 0 = i };
   to = to;
 }

@@ -1,5 +1,5 @@
--- What a panel shows (RULES 11.6) is the published state, and where the copies lie (11.8): said apart from the definitions that code and laws
--- share.
+-- What a panel shows (RULES 11.6) is the published state, where the copies lie (11.8) and how words are packed (11.12): said apart from the
+-- definitions that code and laws share.
 use Prim.Native.Nat.{ℕ, _+_, _*_, _<_, _≤_}
 use mathlib.Core.Path.{_≡_}
 use mathlib.Core.Logic.{_⊎_}
@@ -10,7 +10,9 @@ use Rattle.names.specs.declared.Task.{Task}
 use Rattle.names.specs.declared.Register.{Register}
 use Rattle.names.specs.Placement.{Placement, tasks, registers}
 use Rattle.claims.specs.Published.{Published, quiet}
-use Rattle.tables.specs.Layout.{copyOf, requestsOf}
+use Rattle.tables.specs.declared.Doing.the-variants.{Quiet, AskingUpdate}
+use Rattle.tables.specs.Layout.{homeIn, primaryIn, holdersIn, copyOf, requestsOf}
+use Rattle.tables.specs.Doings.{doingKindIn, askedIn, doingFunctionIn, taskWordOf}
 use Rattle.tables.specs.Panel.{valueShown, doingShown}
 use Rattle.tables.specs.Shows.{statusOf, StoreShows}
 
@@ -25,6 +27,23 @@ pub record PanelMeaning (rs cs : List ℕ) (P : Placement) (s : Published) : Typ
   -- the number of requests taken
   pub requests : requestsOf rs ≡ s .requests
 
--- the copies lie card after card: from word 200 on 32 words for each card, in the order of the registers
+-- the copies lie card after card: from word 65 on 32 words for each card, in the order of the registers
 abbrev pub CardAfterCard : Type 0
-CardAfterCard = (rs : List ℕ) (i x : ℕ) → i < 8 → x < 32 → copyOf rs i x ≡ getD rs (200 + 32 * i + x) 0
+CardAfterCard = (rs : List ℕ) (i x : ℕ) → i < 8 → x < 32 → copyOf rs i x ≡ getD rs (65 + 32 * i + x) 0
+
+-- the fields of a task's first word and of a register's word are its digits (RULES 11.12): none overlaps another, and together they are the word
+pub record FieldsMean : Type 0 where
+  pub task : (w : ℕ) → w ≡ doingKindIn w + 8 * askedIn w + 256 * doingFunctionIn w + 2048 * homeIn w
+  pub kind : (w : ℕ) → doingKindIn w < 8
+  pub asked : (w : ℕ) → askedIn w < 32
+  pub function : (w : ℕ) → doingFunctionIn w < 8
+  pub register : (w : ℕ) → w ≡ primaryIn w + 8 * holdersIn w
+  pub primary : (w : ℕ) → primaryIn w < 8
+
+-- task 3 of home 2 asks to set register 1 to 9: its word, and what a register with primary 1 and copies on 0, 1 and 2 has
+pub record FieldsComputed : Type 0 where
+  pub asks : taskWordOf 2 (AskingUpdate (record { 0 = 1 }) 1 9) ≡ 4362
+  pub quiet-at-home : taskWordOf 7 Quiet ≡ 14336
+  pub homeIn-asks : homeIn 4362 ≡ 2
+  pub primaryIn-placed : primaryIn 57 ≡ 1
+  pub holdersIn-placed : holdersIn 57 ≡ 7

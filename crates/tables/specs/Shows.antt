@@ -1,6 +1,5 @@
 -- What the two memories show: a placement and a state of the published algorithm (000, Figures 5 and 7), for each card, task and register
--- that is present. Of the channel's memory only what the channel says that it shows; the registers forget a letter's sender, which the
--- published algorithm's letters do not have.
+-- that is present. Of the channel's memory only what the channel says that it shows.
 use Prim.Native.Nat.{ℕ, _<_}
 use mathlib.Core.Path.{_≡_}
 use mathlib.Core.List.{List}
@@ -29,7 +28,7 @@ statusOf Waiting = waiting
 statusOf (DoneRead v) = doneRead v
 statusOf DoneUpdate = doneUpdate
 
--- a letter without its sender: an entry of Figure 5's buffer
+-- a letter as an entry of Figure 5's buffer
 abbrev pub plain : Letter → Pub.Letter
 plain l = record { task = l .message .task .0; reg = l .message .register .0; body = l .message .body; to = l .to }
 

@@ -1,19 +1,25 @@
 -- Well-sized memories: what a step must find, else it is refused with 6 (RULES 8.6, parts a to k). The parts of absent cards, tasks and
 -- registers are not looked at.
 use Prim.Native.Nat.{ℕ, _+_, _*_, _%_, _^_, min}
-use mathlib.Core.Bool.{Bool, true, false, _&&_}
+use mathlib.Core.Bool.{Bool, true, false, not, _&&_, _||_}
 use mathlib.Core.List.{List}
-use lib.Dec.{ltb, leb}
+use lib.Dec.{eqb, ltb, leb}
 use lib.ListN.{getD}
 use Rattle.lists.specs.Every.{each}
 use Rattle.names.specs.Update.{knownFunction}
 use Rattle.channel.specs.Layout.{cardsOf, tasksOf, registersOf}
+use Rattle.channel.specs.declared.Limits.{Limits}
+use Rattle.names.specs.Letters.{functionFits}
 use Rattle.channel.specs.Sized.{blockFits, wellSized}
 use Rattle.tables.specs.declared.Doing.{Doing}
 use Rattle.tables.specs.declared.Doing.the-variants.{Quiet, AskingRead, AskingUpdate, Waiting, DoneRead, DoneUpdate}
-use Rattle.tables.specs.Layout.{kindWord, requestsOf, homeOf, holdersOf, primaryOf}
-use Rattle.tables.specs.Doings.{doingAt}
+use Rattle.tables.specs.Layout.{taskWord, requestsOf, homeOf, holdersOf, primaryOf}
+use Rattle.tables.specs.Doings.{doingKindIn, doingAt}
 use Rattle.tables.specs.Outbox.{outHeadOf, outCountOf, outPlace}
+
+-- the kind in task t's word
+abbrev pub doingKindAt : List ℕ → ℕ → ℕ
+doingKindAt rs t = doingKindIn (getD rs (taskWord t) 0)
 
 -- an asking task's register is present, and its function known (e)
 unfoldable pub doingFits : List ℕ → Doing → Bool
@@ -24,9 +30,13 @@ doingFits cs Waiting = true
 doingFits cs (DoneRead v) = true
 doingFits cs DoneUpdate = true
 
+-- the same of the fields of a task's word (proofs/AskedFits joins the two)
+unfoldable pub askedFits : Limits → ℕ → ℕ → ℕ → Bool
+askedFits z kind x f = (not (eqb kind 1 || eqb kind 2) || ltb x (z .registers)) && functionFits kind f
+
 -- task t: its home is present (d), and what it is doing is one of the six kinds (i)
 unfoldable pub taskFits : List ℕ → List ℕ → ℕ → Bool
-taskFits rs cs t = ltb (homeOf rs t) (cardsOf cs) && leb (getD rs (kindWord t) 0) 5 && doingFits cs (doingAt rs t)
+taskFits rs cs t = ltb (homeOf rs t) (cardsOf cs) && leb (doingKindAt rs t) 5 && doingFits cs (doingAt rs t)
 
 -- register x: holders and primary are present cards (d)
 unfoldable pub registerFits : List ℕ → List ℕ → ℕ → Bool

@@ -4,37 +4,37 @@ ghost use lib.ListN.{length};
 ghost use Rattle.lists.specs.Loops.{turns};
 ghost use Rattle.names.specs.Placement.{placement, placementRefusal};
 ghost use Rattle.tables.specs.Start.{homeSet, registerSet, startRegisters, startChannel};
-use super::layout::HOLDERS;
-use super::layout::PRIMARY;
+use super::layout::REGISTER;
 use super::layout::TASK;
 
 // The tasks live at their homes.
-fn place_tasks(registers: &mut [u32; 1544], homes: &[u8])
+fn place_tasks(registers: &mut [u32; 593], homes: &[u8])
     ensures { λ _. ⌜ now (registers .exit) ≡ turns (homeSet (now (homes .entry))) (length (now (homes .entry))) (now (registers .entry)) ⌝ }
 {
     let mut t: usize = 0;
     while t < homes.len() {
-        registers[TASK + t % 16 * 8] = names::placement::byte(homes, t);
+        registers[TASK + t % 16 * 2] = names::placement::byte(homes, t) * 2048;
         t += 1;
     }
 }
 
 // The registers have their holders and their primaries.
-fn place_registers(registers: &mut [u32; 1544], copies: &[u8], primaries: &[u8])
+fn place_registers(registers: &mut [u32; 593], copies: &[u8], primaries: &[u8])
     ensures { λ _. ⌜ now (registers .exit) ≡ turns (registerSet (now (copies .entry)) (now (primaries .entry))) (length (now (copies .entry))) (now (registers .entry)) ⌝ }
 {
     let mut x: usize = 0;
     while x < copies.len() {
-        registers[HOLDERS + x % 32] = names::placement::byte(copies, x);
-        registers[PRIMARY + x % 32] = names::placement::byte(primaries, x);
+        let holders = names::placement::byte(copies, x);
+        let primary = names::placement::byte(primaries, x);
+        registers[REGISTER + x % 32] = primary % 8 + holders * 8;
         x += 1;
     }
 }
 
 // Both memories for this placement, with nothing asked or sent and every copy 0; or the refusal, 3 or 4, and both as they were.
 pub fn start(
-    registers: &mut [u32; 1544],
-    channel: &mut [u32; 4808],
+    registers: &mut [u32; 593],
+    channel: &mut [u32; 1364],
     cards: u32,
     homes: &[u8],
     copies: &[u8],
@@ -49,7 +49,7 @@ pub fn start(
         return number;
     }
     channel::begin(channel, cards, homes.len() as u32, copies.len() as u32);
-    *registers = [0; 1544];
+    *registers = [0; 593];
     place_tasks(registers, homes);
     place_registers(registers, copies, primaries);
     number

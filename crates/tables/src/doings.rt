@@ -1,9 +1,12 @@
-// What a task is doing, in four words: kind, register, function, value.
+// What a task is doing, in two words: one with kind, register and function, below the task's home, and the value.
 ghost use mathlib.Core.Path.{_≡_};
-ghost use Rattle.tables.specs.Doings.{doingOf, doingKind, doingRegister, doingFunction, doingValue, doingAt, doingStored};
+ghost use Prim.Native.Nat.{_<_};
+ghost use Rattle.tables.specs.Doings.{doingOf, doingKind, doingRegister, doingFunction, doingValue, doingAt, taskWordOf, doingStored};
 use super::layout::TASK;
+use super::layout::home_in;
 use super::layout::task_place;
 use crate::Doing;
+use names::Card;
 use names::Register;
 use names::Task;
 
@@ -83,24 +86,32 @@ pub fn value_of(doing: Doing) -> u32
 }
 
 // What a task is doing.
-pub fn load(registers: &[u32; 1544], task: Task) -> Doing
+pub fn load(registers: &[u32; 593], task: Task) -> Doing
     ensures { λ r. ⌜ r ≡ doingAt (now (registers .entry)) (task .0) ⌝ }
 {
-    let at = TASK + task_place(task) * 8;
-    let kind = registers[at + 1];
-    let register = Register(registers[at + 2]);
-    let function = registers[at + 3];
-    let value = registers[at + 4];
-    doing_of(kind, register, function, value)
+    let at = TASK + task_place(task) * 2;
+    let word = registers[at];
+    let value = registers[at + 1];
+    doing_of(word % 8, Register(word / 8 % 32), word / 256 % 8, value)
+}
+
+// The first word of a task with this home that does this.
+fn word_of(home: Card, doing: Doing) -> u32
+    requires { ⌜ home .0 < 2097152 ⌝ }
+    ensures { λ r. ⌜ r ≡ taskWordOf (home .0) doing ⌝ }
+{
+    kind_of(doing) % 8
+        + register_of(doing).0 % 32 * 8
+        + function_of(doing) % 8 * 256
+        + home.0 * 2048
 }
 
 // The task now does this.
-pub fn store(registers: &mut [u32; 1544], task: Task, doing: Doing)
+pub fn store(registers: &mut [u32; 593], task: Task, doing: Doing)
     ensures { λ _. ⌜ now (registers .exit) ≡ doingStored (now (registers .entry)) (task .0) doing ⌝ }
 {
-    let at = TASK + task_place(task) * 8;
-    registers[at + 1] = kind_of(doing);
-    registers[at + 2] = register_of(doing).0;
-    registers[at + 3] = function_of(doing);
-    registers[at + 4] = value_of(doing);
+    let at = TASK + task_place(task) * 2;
+    let home = home_in(registers[at]);
+    registers[at] = word_of(home, doing);
+    registers[at + 1] = value_of(doing);
 }

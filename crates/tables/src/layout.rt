@@ -1,7 +1,7 @@
 // Where things lie in the registers' memory.
 ghost use mathlib.Core.Path.{_≡_};
 ghost use Prim.Native.Nat.{_<_, _%_};
-ghost use Rattle.tables.specs.Layout.{homeOf, holdersOf, primaryOf, holds, copyOf, onlyCard};
+ghost use Rattle.tables.specs.Layout.{homeIn, homeOf, holdersOf, primaryOf, holds, copyOf, onlyCard};
 use names::Card;
 use names::Register;
 use names::Task;
@@ -9,20 +9,19 @@ use names::Task;
 // The requests taken.
 pub const REQUESTS: usize = 0;
 
-// The words of task t start at TASK + t * 8.
-pub const TASK: usize = 8;
+// The two words of task t start at TASK + t * 2.
+pub const TASK: usize = 1;
 
-pub const HOLDERS: usize = 136;
-
-pub const PRIMARY: usize = 168;
+// The holders and the primary of register x.
+pub const REGISTER: usize = 33;
 
 // The copies, card after card.
-pub const COPIES: usize = 200;
+pub const COPIES: usize = 65;
 
-// The words of card i's outbox start at OUTBOX + i * 136; its blocks are OUT + i * 17 and the 15 after it.
-pub const OUTBOX: usize = 456;
+// The words of card i's outbox start at OUTBOX + i * 34; its 16 packets from OUT + i * 34 on.
+pub const OUTBOX: usize = 321;
 
-pub const OUT: usize = 58;
+pub const OUT: usize = 323;
 
 // A task's number below 16.
 pub fn task_place(task: Task) -> usize
@@ -45,36 +44,43 @@ pub fn register_place(register: Register) -> usize
     (register.0 % 32) as usize
 }
 
+// The home in a task's first word.
+pub(crate) fn home_in(word: u32) -> Card
+    ensures { λ r. ⌜ (r .0 ≡ homeIn word) × (r .0 < 2097152) ⌝ }
+{
+    Card(word / 2048)
+}
+
 // The home card of a task.
-pub fn home(registers: &[u32; 1544], task: Task) -> Card
+pub fn home(registers: &[u32; 593], task: Task) -> Card
     ensures { λ r. ⌜ r .0 ≡ homeOf (now (registers .entry)) (task .0) ⌝ }
 {
-    Card(registers[TASK + task_place(task) * 8])
+    home_in(registers[TASK + task_place(task) * 2])
 }
 
 // The set of cards that hold a copy of a register.
-pub fn holders(registers: &[u32; 1544], register: Register) -> u32
+pub fn holders(registers: &[u32; 593], register: Register) -> u32
     ensures { λ r. ⌜ r ≡ holdersOf (now (registers .entry)) (register .0) ⌝ }
 {
-    registers[HOLDERS + register_place(register)]
+    registers[REGISTER + register_place(register)] / 8
 }
 
 // The primary card of a register.
-pub fn primary(registers: &[u32; 1544], register: Register) -> Card
+pub fn primary(registers: &[u32; 593], register: Register) -> Card
     ensures { λ r. ⌜ r .0 ≡ primaryOf (now (registers .entry)) (register .0) ⌝ }
 {
-    Card(registers[PRIMARY + register_place(register)])
+    Card(registers[REGISTER + register_place(register)] % 8)
 }
 
 // Whether a card holds a copy of a register.
-pub fn holds(registers: &[u32; 1544], register: Register, card: Card) -> bool
+pub fn holds(registers: &[u32; 593], register: Register, card: Card) -> bool
     ensures { λ r. ⌜ r ≡ holds (now (registers .entry)) (register .0) (card .0) ⌝ }
 {
     names::member(holders(registers, register), card)
 }
 
 // The value of a card's copy of a register.
-pub fn copy(registers: &[u32; 1544], card: Card, register: Register) -> u32
+pub fn copy(registers: &[u32; 593], card: Card, register: Register) -> u32
     ensures { λ r. ⌜ r ≡ copyOf (now (registers .entry)) (card .0) (register .0) ⌝ }
 {
     registers[COPIES + card_place(card) * 32 + register_place(register)]

@@ -21,7 +21,7 @@ const fn number(digits: &str) -> u32 {
     number
 }
 
-/// The version of the library that is linked, in the form of [`VERSION`]: 3000 is 0.3.0.
+/// The version of the library that is linked, in the form of [`VERSION`]: 4000 is 0.4.0.
 ///
 /// ```
 /// assert_eq!(gondzselu::version(), gondzselu::VERSION);
@@ -129,10 +129,10 @@ mod tests {
     fn another_library_is_told_in_words() {
         let other = OtherLibrary {
             version: 2_030,
-            registers_words: 1544,
-            channel_words: 4816,
+            registers_words: 593,
+            channel_words: 1372,
         };
         let words = other.to_string();
-        assert!(words.ends_with("a library 0.2.30 (memories of 1544 and 4816 words)"));
+        assert!(words.ends_with("a library 0.2.30 (memories of 593 and 1372 words)"));
     }
 }

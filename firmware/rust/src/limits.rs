@@ -1,10 +1,10 @@
 //! Sizes and limits (RULES 1.3, 3.2, 4.1, 7.8, 11.1, 14.6).
 
 /// The registers' memory of a store, in words of 32 bits.
-pub const REGISTERS_WORDS: usize = 1544;
+pub const REGISTERS_WORDS: usize = 593;
 
 /// The channel's memory of a store, in words of 32 bits.
-pub const CHANNEL_WORDS: usize = 4808;
+pub const CHANNEL_WORDS: usize = 1364;
 
 /// The most cards of a placement; at least one.
 pub const MAX_CARDS: usize = 8;

@@ -3,15 +3,18 @@
 //!
 //! `model` holds the rules, `named` the runs K1 to K13, `steps` the ten steps as bytes, `generate`
 //! makes files from a seed, `statistics` tells what files contain and what they must reach,
+//! `memory` has a state in the words of a store, `by_hand` makes states that no run needs to reach,
 //! `sentence` puts refusals into words, `stored`, `view` and `say` have the files that the tree
 //! keeps (`folder`), `selfcheck` and `consistency` try the model itself, and `library` compares the
 //! store with it.
 
+pub mod by_hand;
 pub mod consistency;
 pub mod folder;
 pub mod generate;
 #[cfg(feature = "library")]
 pub mod library;
+pub mod memory;
 pub mod model;
 pub mod named;
 pub mod random;

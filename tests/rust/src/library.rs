@@ -3,25 +3,23 @@
 
 mod c;
 mod calls;
-pub mod memory;
 pub mod sentences;
 pub mod states;
-mod stretch;
 mod wild;
 pub mod words;
 
 use gondzselu::{Condition, Refusal, Store, Tally};
 
+use crate::memory::{self, Words};
 use crate::model::files::{answer_file, answer_into, program_output, Run};
 use crate::model::placement::Placement;
 use crate::model::{tally, Request, State, Task};
 use crate::named;
 use crate::random::Random;
 use calls::Calls;
-use memory::shown;
 
-/// Version 0.3.0.
-const VERSION: u32 = 3_000;
+/// Version 0.4.0.
+const VERSION: u32 = 4_000;
 
 /// What lies in a lent output before.
 const FILL: u8 = 0xA5;
@@ -71,6 +69,17 @@ fn compare_lent(file: &[u8], lent: usize, begun: Tally) -> Result<(), String> {
         ));
     }
     Ok(())
+}
+
+/// A store of these words.
+fn store(words: &Words) -> Store {
+    Store::from_words(&words.registers, &words.channel)
+}
+
+/// The state that a well-sized store shows.
+fn shown(store: &Store) -> State {
+    let (registers, channel) = store.words();
+    memory::shown(registers, channel)
 }
 
 /// A store begun from a placement of the model. The same on 256 or more cards besides is refused:

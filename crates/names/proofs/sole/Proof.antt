@@ -1,64 +1,35 @@
-use Rattle.lists.specs.Loops.{total, turns}
-use Rattle.names.specs.CardSet.{soleOf}
 use native.Mathlib.Omega.{arith}
+use mathlib.Core.Path.{_≡_, sym, _∙_}
+use borrow.Author.Tests.{not-false, not-true}
 use borrow.Author.Needs.{needs}
+use Rattle.names.proofs.CardSets.{single-low, sole-low, sole-few, sole-more}
 use Rattle.names.proofs.sole.Statement.{statement}
 use Rattle.names.proofs.sole.Tie as tie
 
-mul-t6 : tie.Need-mul-t6
-mul-t6 c = search needs
-
-add-t7 : tie.Need-add-t7
-add-t7 c = search needs
-
-mul-t10 : tie.Need-mul-t10
-mul-t10 c = search needs
-
-add-t11 : tie.Need-add-t11
-add-t11 c = search needs
-
-mul-t14 : tie.Need-mul-t14
-mul-t14 c = search needs
-
-add-t15 : tie.Need-add-t15
-add-t15 c = search needs
-
-mul-t18 : tie.Need-mul-t18
-mul-t18 c = search needs
-
-add-t19 : tie.Need-add-t19
-add-t19 c = search needs
-
-mul-t22 : tie.Need-mul-t22
-mul-t22 c = search needs
-
-add-t23 : tie.Need-add-t23
-add-t23 c = search needs
-
-mul-t26 : tie.Need-mul-t26
-mul-t26 c = search needs
-
-add-t27 : tie.Need-add-t27
-add-t27 c = search needs
+single-requires : tie.Need-single-requires
+single-requires c κs = search needs
 
 returns : tie.Need-returns
-unfolding soleOf total turns
-returns c = omega arith
+returns c = let z = sym (c .before .single .ensures) ∙ not-true _ (c .if1 .taken) in simp z
+
+sub-t8 : tie.Need-sub-t8
+sub-t8 c = search needs
+
+returns-2 : tie.Need-returns-2
+returns-2 c =
+    let z = sym (c .before .before .single .ensures) ∙ not-false _ (c .before .if1 .left) in
+    let s = sym (sole-few _ (omega arith) (single-low _ ∙ z) (c .if2 .taken)) ∙ sole-low _ in simp (z, s)
+
+add-t10 : tie.Need-add-t10
+add-t10 c = search needs
+
+sub-t12 : tie.Need-sub-t12
+sub-t12 c = search needs
+
+returns-3 : tie.Need-returns-3
+returns-3 c =
+    let z = sym (c .before .before .single .ensures) ∙ not-false _ (c .before .if1 .left) in
+    let s = sym (sole-more _ (omega arith) (single-low _ ∙ z) (c .if2 .left)) ∙ sole-low _ in simp (z, s)
 
 pub sole-spec : {M : Type 1} → statement M
-sole-spec =
-    tie.close
-    (tie.spec
-    mul-t6
-    add-t7
-    mul-t10
-    add-t11
-    mul-t14
-    add-t15
-    mul-t18
-    add-t19
-    mul-t22
-    add-t23
-    mul-t26
-    add-t27
-    returns)
+sole-spec = tie.close (tie.spec single-requires returns sub-t8 returns-2 add-t10 sub-t12 returns-3)

@@ -1,8 +1,8 @@
 //! Refusal 6 for the state (RULES 8.6). Only states made by hand can be so.
 //!
-//! A state of this model has no sender of a message, no tag but of a message held or in flight, no
-//! kind or condition but those that there are, and no rings. So the rest of 8.6 f, g, i and j is
-//! tried on words alone (`library::words`).
+//! A state of this model has no kind of message and no condition but those that there are, no
+//! rings, no card past number 7 in a set, and no register of a reply. So the rest of 8.6 d, f, i
+//! and j is tried on words alone (`by_hand::words`), and judged there by `memory::well_sized`.
 
 use super::channel::{Body, Message, Tagged, BEHIND, BROADCASTS, HELD, INBOX, OUTBOX};
 use super::placement::sizes_in_range;

@@ -5,16 +5,16 @@ use mathlib.Core.List.{List}
 use mathlib.Core.Path.{_≡_}
 use lib.ListN.{set}
 use borrow.Author.Needs.{needs}
-use Rattle.names.specs.declared.Letter.{Letter}
+use Rattle.names.specs.declared.Packet.{Packet}
 use Rattle.channel.specs.Layout.{takenWord}
 use Rattle.channel.specs.TakeBroadcast.{arrived, joined}
 use Rattle.channel.proofs.broadcast.join.Statement.{statement}
 use Rattle.channel.proofs.broadcast.join.Tie as tie
 
 -- a destination's words
-there-joined : (ws us vs : List ℕ) (i n : ℕ) (l : Letter) (there : Bool) → vs ≡ arrived us i n l → us ≡ set ws (takenWord i) n → there ≡ true → vs ≡ joined ws i n l there
+there-joined : (ws us vs : List ℕ) (i n : ℕ) (p : Packet) (there : Bool) → vs ≡ arrived us i n p → us ≡ set ws (takenWord i) n → there ≡ true → vs ≡ joined ws i n p there
 unfolding joined
-there-joined ws us vs i n l there a s t = simp (a, s, t)
+there-joined ws us vs i n p there a s t = simp (a, s, t)
 
 set-taken-requires : tie.Need-set-taken-requires
 set-taken-requires c κs = search needs

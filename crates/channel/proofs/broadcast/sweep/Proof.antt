@@ -1,6 +1,6 @@
 use mathlib.Core.Path.{sym, _∙_}
 use native.Mathlib.Omega.{arith}
-use Rattle.channel.specs.TakeBroadcast.{sweptWords, sweptKept}
+use Rattle.channel.specs.TakeBroadcast.{sweptKept, sweptWords}
 use borrow.Author.Needs.{needs}
 use Rattle.channel.proofs.broadcast.sweep.Statement.{statement}
 use Rattle.channel.proofs.broadcast.sweep.Tie as tie
@@ -30,8 +30,8 @@ returns c = let b = c .before .before .before .before .before .before .before .b
 held-block-requires-2 : tie.Need-held-block-requires-2
 held-block-requires-2 c κs = search needs
 
-store-requires : tie.Need-store-requires
-store-requires c κs = search needs
+mark-requires : tie.Need-mark-requires
+mark-requires c κs = search needs
 
 add-result : tie.Need-add-result
 add-result c = search needs
@@ -42,7 +42,7 @@ returns-2 c = let b = c .before .before .before .before .before .before .before 
     let m = rw b at (c .before .before .before .before .before .tag-at .ensures) in
     let z = rw m at (sym (c .before .before .before .before .waits .ensures) ∙ c .before .before .before .if1 .left) in
     let l = rw b at (c .before .before .before .before .before .before .before .load .ensures) in
-    (simp z (simp (c .before .held-block2 .ensures .0, l, m) at (c .store .ensures)), (simp z, omega arith))
+    (simp z (simp (c .before .held-block2 .ensures .0, l, m) at (c .mark .ensures)), (simp z, omega arith))
 
 pub sweep-spec : {M : Type 1} → statement M
 sweep-spec =
@@ -55,6 +55,6 @@ sweep-spec =
     push-requires
     returns
     held-block-requires-2
-    store-requires
+    mark-requires
     add-result
     returns-2)

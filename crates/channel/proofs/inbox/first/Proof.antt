@@ -11,8 +11,8 @@ returns : tie.Need-returns
 unfolding gotOf
 returns c = simp (rw (c .before .count-of .ensures) at (eq-eqb _ _ (c .if1 .taken)))
 
-head-of-requires : tie.Need-head-of-requires
-head-of-requires c κs = search needs
+start-requires : tie.Need-start-requires
+start-requires c κs = search needs
 
 inbox-block-requires : tie.Need-inbox-block-requires
 inbox-block-requires c κs = search needs
@@ -20,9 +20,12 @@ inbox-block-requires c κs = search needs
 load-requires : tie.Need-load-requires
 load-requires c κs = search needs
 
+letter-of-requires : tie.Need-letter-of-requires
+letter-of-requires c κs = search needs
+
 returns-2 : tie.Need-returns-2
 unfolding gotOf
-returns-2 c = let z = rw (c .before .before .before .before .before .count-of .ensures) at (ne-eqb _ _ (c .before .before .before .before .if1 .left)) in simp (z, c .before .load .ensures, c .before .before .inbox-block .ensures .0, c .before .before .before .head-of .ensures)
+returns-2 c = let z = rw (c .before .before .before .before .before .before .count-of .ensures) at (ne-eqb _ _ (c .before .before .before .before .before .if1 .left)) in simp (z, c .before .letter-of .ensures, c .before .before .load .ensures, c .before .before .before .inbox-block .ensures .0, c .before .before .before .before .start .ensures .0)
 
 pub first-spec : {M : Type 1} → statement M
 first-spec =
@@ -30,7 +33,8 @@ first-spec =
     (tie.spec
     count-of-requires
     returns
-    head-of-requires
+    start-requires
     inbox-block-requires
     load-requires
+    letter-of-requires
     returns-2)

@@ -1,14 +1,35 @@
-use mathlib.Core.Path.{_∙_}
+use Rattle.lists.specs.Tests.{cases}
+use Rattle.names.specs.Letters.{stored}
 use borrow.Author.Needs.{needs}
-use Rattle.names.proofs.Blocks.{stored-reached}
 use Rattle.channel.proofs.letters.store.Statement.{statement}
 use Rattle.channel.proofs.letters.store.Tie as tie
 
-store-requires : tie.Need-store-requires
-store-requires c κs = search needs
+mul-memory : tie.Need-mul-memory
+mul-memory c = search needs
+
+element-write-memory : tie.Need-element-write-memory
+element-write-memory c = search needs
+
+add-memory : tie.Need-add-memory
+add-memory c = search needs
+
+mul-memory-2 : tie.Need-mul-memory-2
+mul-memory-2 c = search needs
+
+element-write-memory-2 : tie.Need-element-write-memory-2
+element-write-memory-2 c = search needs
 
 returns : tie.Need-returns
-returns c = c .store .ensures ∙ stored-reached _ 601 _ _ _ (search needs) (search needs)
+unfolding stored
+returns c = search (needs, cases)
 
 pub store-spec : {M : Type 1} → statement M
-store-spec = tie.close (tie.spec store-requires returns)
+store-spec =
+    tie.close
+    (tie.spec
+    mul-memory
+    element-write-memory
+    add-memory
+    mul-memory-2
+    element-write-memory-2
+    returns)

@@ -1,25 +1,20 @@
-use mathlib.Core.Path.{refl}
-use Rattle.names.specs.Letters.{letterAt}
+use Rattle.names.specs.Letters.{letterOf}
 use borrow.Author.Needs.{needs}
 use Rattle.channel.proofs.letters.to_at.Statement.{statement}
 use Rattle.channel.proofs.letters.to_at.Tie as tie
 
-mul-result : tie.Need-mul-result
-mul-result c = search needs
+mul-to-in : tie.Need-mul-to-in
+mul-to-in c = search needs
 
-add-result : tie.Need-add-result
-add-result c = search needs
+element-copy-out-to-in : tie.Need-element-copy-out-to-in
+element-copy-out-to-in c = search needs
 
-mul-result-2 : tie.Need-mul-result-2
-mul-result-2 c = search needs
-
-element-copy-out-result : tie.Need-element-copy-out-result
-element-copy-out-result c = search needs
+to-in-requires : tie.Need-to-in-requires
+to-in-requires c κs = search needs
 
 returns : tie.Need-returns
-unfolding letterAt
-returns c = refl
+unfolding letterOf
+returns c = c .to-in .ensures
 
 pub to-at-spec : {M : Type 1} → statement M
-to-at-spec =
-    tie.close (tie.spec mul-result add-result mul-result-2 element-copy-out-result returns)
+to-at-spec = tie.close (tie.spec mul-to-in element-copy-out-to-in to-in-requires returns)

@@ -1,8 +1,8 @@
 use mathlib.Core.Path.{sym, _∙_}
-use borrow.Author.Needs.{needs}
 use borrow.Author.Tests.{lt-ltb, le-ltb, not-true, not-false}
 use Rattle.channel.specs.Answers.{isDone}
 use Rattle.channel.specs.Dispatch.{castAnswer, castMemory}
+use borrow.Author.Needs.{needs}
 use Rattle.channel.proofs.send.cast.Statement.{statement}
 use Rattle.channel.proofs.send.cast.Tie as tie
 
@@ -34,6 +34,9 @@ add-t10 c = search needs
 broadcast-block-requires : tie.Need-broadcast-block-requires
 broadcast-block-requires c κs = search needs
 
+packet-of-requires : tie.Need-packet-of-requires
+packet-of-requires c κs = search needs
+
 store-requires : tie.Need-store-requires
 store-requires c κs = search needs
 
@@ -42,8 +45,8 @@ element-write-memory c = search needs
 
 returns-4 : tie.Need-returns-4
 unfolding castAnswer castMemory isDone
-returns-4 c = let z = sym (c .before .before .before .before .before .before .before .before .before .before .before .before .near .ensures) ∙ not-false _ (c .before .before .before .before .before .before .before .before .before .before .before .if1 .left) in let y = sym (c .before .before .before .before .before .before .before .before .before .fits2 .ensures) ∙ not-false _ (c .before .before .before .before .before .before .before .before .if2 .left) in
-    let x = rw (c .before .before .before .before .before .before .made .ensures) at (lt-ltb _ _ (c .before .before .before .before .if3 .left)) in (simp (z, y, x, c .store .ensures, c .before .broadcast-block .ensures .0, c .before .before .before .before .before .before .made .ensures), simp (z, y, x))
+returns-4 c = let z = sym (c .before .before .before .before .before .before .before .before .before .before .before .before .before .near .ensures) ∙ not-false _ (c .before .before .before .before .before .before .before .before .before .before .before .before .if1 .left) in let y = sym (c .before .before .before .before .before .before .before .before .before .before .fits2 .ensures) ∙ not-false _ (c .before .before .before .before .before .before .before .before .before .if2 .left) in
+    let x = rw (c .before .before .before .before .before .before .before .made .ensures) at (lt-ltb _ _ (c .before .before .before .before .before .if3 .left)) in (simp (z, y, x, c .store .ensures, c .before .packet-of .ensures, c .before .before .broadcast-block .ensures .0, c .before .before .before .before .before .before .before .made .ensures), simp (z, y, x))
 
 pub cast-spec : {M : Type 1} → statement M
 cast-spec =
@@ -57,6 +60,7 @@ cast-spec =
     returns-3
     add-t10
     broadcast-block-requires
+    packet-of-requires
     store-requires
     element-write-memory
     returns-4)

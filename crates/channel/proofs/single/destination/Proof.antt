@@ -23,7 +23,7 @@ sole-requires : tie.Need-sole-requires
 sole-requires c κs = search needs
 
 returns : tie.Need-returns
-returns c = (c .sole .ensures, sole-below _ _ (c .sole .ensures) (c .before .pre))
+returns c = let e = rw (c .before .pre) at (c .sole .ensures) in (e, sole-below _ _ e (c .before .pre))
 
 pub destination-spec : {M : Type 1} → statement M
 destination-spec = tie.close (tie.spec sole-requires returns)

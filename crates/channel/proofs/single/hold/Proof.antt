@@ -17,8 +17,8 @@ cast-held-block c = search needs
 held-block-requires : tie.Need-held-block-requires
 held-block-requires c κs = search needs
 
-store-requires : tie.Need-store-requires
-store-requires c κs = search needs
+mark-requires : tie.Need-mark-requires
+mark-requires c κs = search needs
 
 add-set-held : tie.Need-add-set-held
 add-set-held c = search needs
@@ -29,7 +29,7 @@ set-held-requires c κs = search needs
 returns-2 : tie.Need-returns-2
 unfolding heldMore
 returns-2 c = let n = c .before .before .before .before .before .before .held-of .ensures in
-    simp (rw n at (lt-ltb _ _ (c .before .before .before .before .before .if1 .left)), c .set-held .ensures, c .before .before .store .ensures, c .before .before .before .held-block .ensures .0, n)
+    simp (rw n at (lt-ltb _ _ (c .before .before .before .before .before .if1 .left)), c .set-held .ensures, c .before .before .mark .ensures, c .before .before .before .held-block .ensures .0, n)
 
 pub hold-spec : {M : Type 1} → statement M
 hold-spec =
@@ -39,7 +39,7 @@ hold-spec =
     returns
     cast-held-block
     held-block-requires
-    store-requires
+    mark-requires
     add-set-held
     set-held-requires
     returns-2)

@@ -6,9 +6,6 @@ use Rattle.channel.proofs.single.land.Tie as tie
 flight-block-requires : tie.Need-flight-block-requires
 flight-block-requires c κs = search needs
 
-mul-at : tie.Need-mul-at
-mul-at c = search needs
-
 mul-memory : tie.Need-mul-memory
 mul-memory c = search needs
 
@@ -34,7 +31,6 @@ land-spec =
     tie.close
     (tie.spec
     flight-block-requires
-    mul-at
     mul-memory
     element-write-memory
     push-requires

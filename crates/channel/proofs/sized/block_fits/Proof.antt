@@ -1,24 +1,21 @@
-use Rattle.channel.specs.Sized.{blockFits}
+use mathlib.Core.Path.{_∙_}
+use Rattle.channel.proofs.LetterFits.{word-fits-at}
 use borrow.Author.Needs.{needs}
 use Rattle.channel.proofs.sized.block_fits.Statement.{statement}
 use Rattle.channel.proofs.sized.block_fits.Tie as tie
 
-kind-at-requires : tie.Need-kind-at-requires
-kind-at-requires c κs = search needs
+mul-word-fits : tie.Need-mul-word-fits
+mul-word-fits c = search needs
 
-tag-at-requires : tie.Need-tag-at-requires
-tag-at-requires c κs = search needs
+element-copy-out-word-fits : tie.Need-element-copy-out-word-fits
+element-copy-out-word-fits c = search needs
 
-load-requires : tie.Need-load-requires
-load-requires c κs = search needs
-
-fits-requires : tie.Need-fits-requires
-fits-requires c κs = search needs
+word-fits-requires : tie.Need-word-fits-requires
+word-fits-requires c κs = search needs
 
 returns : tie.Need-returns
-unfolding blockFits
-returns c = rw (← (c .before .before .before .before .kind-at .ensures), ← (c .before .before .before .tag-at .ensures), ← (c .before .before .load .ensures), ← (c .fits2 .ensures))
+returns c = c .word-fits .ensures ∙ rw (c .before .before .pre .0) (word-fits-at _ (c .before .before .args .memory .now) (c .before .before .args .block))
 
 pub block-fits-spec : {M : Type 1} → statement M
 block-fits-spec =
-    tie.close (tie.spec kind-at-requires tag-at-requires load-requires fits-requires returns)
+    tie.close (tie.spec mul-word-fits element-copy-out-word-fits word-fits-requires returns)

@@ -1,31 +1,26 @@
 use Prim.Native.Nat.{_-_, _≤_}
-use mathlib.Core.Bool.{true}
 use mathlib.Core.Path.{_≡_, sym, _∙_}
 use native.Mathlib.Omega.{arith}
+use Rattle.lists.specs.Every.{each, each-zero, each-next}
 use borrow.Author.Needs.{needs}
-use borrow.Author.Tests.{not-true, not-false}
-use Rattle.lists.specs.Every.{each, each-zero, each-more, each-fails}
 use Rattle.channel.specs.Sized.{cardFits}
 use Rattle.channel.proofs.sized.card_all.Statement.{statement}
 use Rattle.channel.proofs.sized.card_all.Tie as tie
 
 abbrev Inv-loop : tie.InvT-loop
-Inv-loop memory n i₀ i = (i ≤ n) × (each i (cardFits memory) ≡ true)
+Inv-loop memory limits n all₀ i₀ all i = (i ≤ n) × (all ≡ each i (cardFits memory))
 
 abbrev μ-loop : tie.MeasureT-loop
-μ-loop memory n i₀ i = n - i
+μ-loop memory limits n all₀ i₀ all i = n - i
 
 cards-requires : tie.Need-cards-requires Inv-loop μ-loop
 cards-requires c κs = search needs
 
 loop-holds : tie.Need-loop-holds Inv-loop μ-loop
-loop-holds c = (omega arith, each-zero _)
+loop-holds c = (omega arith, sym (each-zero _))
 
 card-fits-requires : tie.Need-card-fits-requires Inv-loop μ-loop
 card-fits-requires c κs = search needs
-
-returns : tie.Need-returns Inv-loop μ-loop
-returns c = rw (← (c .before .before .before .before .cards .ensures .0)) (sym (each-fails _ _ (c .before .before .before .loop .i) (omega arith) (sym (c .before .card-fits .ensures) ∙ not-true _ (c .if1 .taken))))
 
 add-i : tie.Need-add-i Inv-loop μ-loop
 add-i c = search needs
@@ -34,10 +29,10 @@ loop-less : tie.Need-loop-less Inv-loop μ-loop
 loop-less c = search needs
 
 loop-again : tie.Need-loop-again Inv-loop μ-loop
-loop-again c = (omega arith, each-more _ _ (c .before .before .before .loop .inv .1) (sym (c .before .card-fits .ensures) ∙ not-false _ (c .if1 .left)))
+loop-again c = (omega arith, rw (each-next, ← (c .before .before .loop .inv .1), ← (c .card-fits .ensures)))
 
-returns-2 : tie.Need-returns-2 Inv-loop μ-loop
-returns-2 c = let e : c .before .loop .i ≡ c .before .before .cards .result = omega arith in rw (← (c .before .before .cards .ensures .0), ← e) (sym (c .before .loop .inv .1))
+returns : tie.Need-returns Inv-loop μ-loop
+returns c = let e : c .before .loop .i ≡ c .before .before .cards .result = omega arith in rw (← (c .before .before .cards .ensures .0), ← e) (c .before .loop .inv .1)
 
 pub card-all-spec : {M : Type 1} → statement M
 card-all-spec =
@@ -48,8 +43,7 @@ card-all-spec =
     cards-requires
     loop-holds
     card-fits-requires
-    returns
     add-i
     loop-less
     loop-again
-    returns-2)
+    returns)

@@ -10,10 +10,10 @@ use Rattle.channel.proofs.sized.flight_all.Statement.{statement}
 use Rattle.channel.proofs.sized.flight_all.Tie as tie
 
 abbrev Inv-loop : tie.InvT-loop
-Inv-loop memory n t₀ t = (t ≤ n) × (each t (flightFits memory) ≡ true)
+Inv-loop memory limits n t₀ t = (t ≤ n) × (each t (flightFits memory) ≡ true)
 
 abbrev μ-loop : tie.MeasureT-loop
-μ-loop memory n t₀ t = n - t
+μ-loop memory limits n t₀ t = n - t
 
 tasks-requires : tie.Need-tasks-requires Inv-loop μ-loop
 tasks-requires c κs = search needs

@@ -6,13 +6,12 @@ use Rattle.channel.proofs.sized.held_fits.Tie as tie
 held-block-requires : tie.Need-held-block-requires
 held-block-requires c κs = search needs
 
-block-fits-requires : tie.Need-block-fits-requires
-block-fits-requires c κs = search needs
+tagged-fits-requires : tie.Need-tagged-fits-requires
+tagged-fits-requires c κs = search needs
 
 returns : tie.Need-returns
 unfolding heldFits
-returns c = rw (← (c .before .held-block .ensures .0)) (c .block-fits .ensures)
+returns c = rw (← (c .before .held-block .ensures .0)) (c .tagged-fits .ensures)
 
 pub held-fits-spec : {M : Type 1} → statement M
-held-fits-spec =
-    tie.close (tie.spec held-block-requires block-fits-requires returns)
+held-fits-spec = tie.close (tie.spec held-block-requires tagged-fits-requires returns)

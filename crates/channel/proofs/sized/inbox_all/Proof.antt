@@ -1,19 +1,17 @@
 use Prim.Native.Nat.{_-_, _≤_}
-use mathlib.Core.Bool.{true}
 use mathlib.Core.Path.{_≡_, sym, _∙_}
 use native.Mathlib.Omega.{arith}
+use Rattle.lists.specs.Every.{each, each-zero, each-next}
 use borrow.Author.Needs.{needs}
-use borrow.Author.Tests.{not-true, not-false}
-use Rattle.lists.specs.Every.{each, each-zero, each-more, each-fails}
 use Rattle.channel.specs.Sized.{inboxFits}
 use Rattle.channel.proofs.sized.inbox_all.Statement.{statement}
 use Rattle.channel.proofs.sized.inbox_all.Tie as tie
 
 abbrev Inv-loop : tie.InvT-loop
-Inv-loop memory card n k₀ k = (k ≤ n) × (each k (inboxFits memory (card .0)) ≡ true)
+Inv-loop memory limits card n all₀ k₀ all k = (k ≤ n) × (all ≡ each k (inboxFits memory (card .0)))
 
 abbrev μ-loop : tie.MeasureT-loop
-μ-loop memory card n k₀ k = n - k
+μ-loop memory limits card n all₀ k₀ all k = n - k
 
 count-of-requires : tie.Need-count-of-requires Inv-loop μ-loop
 count-of-requires c κs = search needs
@@ -22,13 +20,10 @@ capped-requires : tie.Need-capped-requires Inv-loop μ-loop
 capped-requires c κs = search needs
 
 loop-holds : tie.Need-loop-holds Inv-loop μ-loop
-loop-holds c = (omega arith, each-zero _)
+loop-holds c = (omega arith, sym (each-zero _))
 
 inbox-fits-requires : tie.Need-inbox-fits-requires Inv-loop μ-loop
 inbox-fits-requires c κs = search needs
-
-returns : tie.Need-returns Inv-loop μ-loop
-returns c = rw (← (c .before .before .before .before .before .count-of .ensures), ← (c .before .before .before .before .capped .ensures)) (sym (each-fails _ _ (c .before .before .before .loop .k) (omega arith) (sym (c .before .inbox-fits .ensures) ∙ not-true _ (c .if1 .taken))))
 
 add-k : tie.Need-add-k Inv-loop μ-loop
 add-k c = search needs
@@ -37,10 +32,10 @@ loop-less : tie.Need-loop-less Inv-loop μ-loop
 loop-less c = search needs
 
 loop-again : tie.Need-loop-again Inv-loop μ-loop
-loop-again c = (omega arith, each-more _ _ (c .before .before .before .loop .inv .1) (sym (c .before .inbox-fits .ensures) ∙ not-false _ (c .if1 .left)))
+loop-again c = (omega arith, rw (each-next, ← (c .before .before .loop .inv .1), ← (c .inbox-fits .ensures)))
 
-returns-2 : tie.Need-returns-2 Inv-loop μ-loop
-returns-2 c = let e : c .before .loop .k ≡ c .before .before .capped .result = omega arith in rw (← (c .before .before .before .count-of .ensures), ← (c .before .before .capped .ensures), ← e) (sym (c .before .loop .inv .1))
+returns : tie.Need-returns Inv-loop μ-loop
+returns c = let e : c .before .loop .k ≡ c .before .before .capped .result = omega arith in rw (← (c .before .before .before .count-of .ensures), ← (c .before .before .capped .ensures), ← e) (c .before .loop .inv .1)
 
 pub inbox-all-spec : {M : Type 1} → statement M
 inbox-all-spec =
@@ -52,8 +47,7 @@ inbox-all-spec =
     capped-requires
     loop-holds
     inbox-fits-requires
-    returns
     add-k
     loop-less
     loop-again
-    returns-2)
+    returns)

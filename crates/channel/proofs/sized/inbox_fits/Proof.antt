@@ -14,5 +14,4 @@ unfolding inboxFits
 returns c = rw (← (c .before .place-of .ensures .0)) (c .block-fits .ensures)
 
 pub inbox-fits-spec : {M : Type 1} → statement M
-inbox-fits-spec =
-    tie.close (tie.spec place-of-requires block-fits-requires returns)
+inbox-fits-spec = tie.close (tie.spec place-of-requires block-fits-requires returns)

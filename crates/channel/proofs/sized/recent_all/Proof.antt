@@ -1,19 +1,17 @@
 use Prim.Native.Nat.{_-_, _≤_}
-use mathlib.Core.Bool.{true}
 use mathlib.Core.Path.{_≡_, sym, _∙_}
 use native.Mathlib.Omega.{arith}
+use Rattle.lists.specs.Every.{each, each-zero, each-next}
 use borrow.Author.Needs.{needs}
-use borrow.Author.Tests.{not-true, not-false}
-use Rattle.lists.specs.Every.{each, each-zero, each-more, each-fails}
 use Rattle.channel.specs.Sized.{recentFits}
 use Rattle.channel.proofs.sized.recent_all.Statement.{statement}
 use Rattle.channel.proofs.sized.recent_all.Tie as tie
 
 abbrev Inv-loop : tie.InvT-loop
-Inv-loop memory last n k₀ k = (k ≤ n) × (each k (recentFits memory) ≡ true)
+Inv-loop memory limits n first all₀ k₀ all k = (k ≤ n) × (all ≡ each k (recentFits memory))
 
 abbrev μ-loop : tie.MeasureT-loop
-μ-loop memory last n k₀ k = n - k
+μ-loop memory limits n first all₀ k₀ all k = n - k
 
 made-requires : tie.Need-made-requires Inv-loop μ-loop
 made-requires c κs = search needs
@@ -21,18 +19,20 @@ made-requires c κs = search needs
 capped-requires : tie.Need-capped-requires Inv-loop μ-loop
 capped-requires c κs = search needs
 
-loop-holds : tie.Need-loop-holds Inv-loop μ-loop
-loop-holds c = (omega arith, each-zero _)
+wide-requires : tie.Need-wide-requires Inv-loop μ-loop
+wide-requires c κs = search needs
 
-sub-t6 : tie.Need-sub-t6 Inv-loop μ-loop
-sub-t6 c = search needs
+first-recent-requires : tie.Need-first-recent-requires Inv-loop μ-loop
+first-recent-requires c κs = search needs
+
+loop-holds : tie.Need-loop-holds Inv-loop μ-loop
+loop-holds c = (omega arith, sym (each-zero _))
+
+add-broadcast-fits : tie.Need-add-broadcast-fits Inv-loop μ-loop
+add-broadcast-fits c = search needs
 
 broadcast-fits-requires : tie.Need-broadcast-fits-requires Inv-loop μ-loop
-broadcast-fits-requires c κs = search needs
-
-returns : tie.Need-returns Inv-loop μ-loop
-unfolding recentFits
-returns c = rw (← (c .before .before .before .before .before .before .made .ensures), ← (c .before .before .before .before .before .capped .ensures)) (sym (each-fails _ _ (c .before .before .before .before .loop .k) (omega arith) (sym (rw (c .before .before .before .before .before .before .made .ensures) at (c .before .broadcast-fits .ensures)) ∙ not-true _ (c .if1 .taken))))
+broadcast-fits-requires c κs = let w = c .before .before .before .wide .ensures .0 in let p = c .before .before .before .before .capped .ensures in let m = c .before .before .first-recent .ensures .1 in (c .before .before .before .before .before .before .pre, omega arith)
 
 add-k : tie.Need-add-k Inv-loop μ-loop
 add-k c = search needs
@@ -42,10 +42,10 @@ loop-less c = search needs
 
 loop-again : tie.Need-loop-again Inv-loop μ-loop
 unfolding recentFits
-loop-again c = (omega arith, each-more _ _ (c .before .before .before .before .loop .inv .1) (sym (rw (c .before .before .before .before .before .before .made .ensures) at (c .before .broadcast-fits .ensures)) ∙ not-false _ (c .if1 .left)))
+loop-again c = (omega arith, rw (each-next, ← (c .before .before .loop .inv .1), ← (c .before .before .before .before .before .before .made .ensures), ← (c .before .before .before .first-recent .ensures .0), ← (c .broadcast-fits .ensures)))
 
-returns-2 : tie.Need-returns-2 Inv-loop μ-loop
-returns-2 c = let e : c .before .loop .k ≡ c .before .before .capped .result = omega arith in rw (← (c .before .before .before .made .ensures), ← (c .before .before .capped .ensures), ← e) (sym (c .before .loop .inv .1))
+returns : tie.Need-returns Inv-loop μ-loop
+returns c = let e : c .before .loop .k ≡ c .before .before .before .wide .result = omega arith in rw (← (c .before .before .before .before .before .made .ensures), ← (c .before .before .before .before .capped .ensures), ← (c .before .before .before .wide .ensures .0), ← e) (c .before .loop .inv .1)
 
 pub recent-all-spec : {M : Type 1} → statement M
 recent-all-spec =
@@ -55,11 +55,12 @@ recent-all-spec =
     μ-loop
     made-requires
     capped-requires
+    wide-requires
+    first-recent-requires
     loop-holds
-    sub-t6
+    add-broadcast-fits
     broadcast-fits-requires
-    returns
     add-k
     loop-less
     loop-again
-    returns-2)
+    returns)

@@ -3,6 +3,9 @@ use Rattle.channel.specs.Sized.{wellSized}
 use Rattle.channel.proofs.sized.well_sized.Statement.{statement}
 use Rattle.channel.proofs.sized.well_sized.Tie as tie
 
+limits-of-requires : tie.Need-limits-of-requires
+limits-of-requires c κs = search needs
+
 head-fits-requires : tie.Need-head-fits-requires
 head-fits-requires c κs = search needs
 
@@ -22,4 +25,4 @@ returns c = rw (← (c .before .before .before .head-fits .ensures), ← (c .bef
 pub well-sized-spec : {M : Type 1} → statement M
 well-sized-spec =
     tie.close
-    (tie.spec head-fits-requires card-all-requires flight-all-requires recent-all-requires returns)
+    (tie.spec limits-of-requires head-fits-requires card-all-requires flight-all-requires recent-all-requires returns)

@@ -1,6 +1,4 @@
-use borrow.Author.Tests.{not-true, not-false}
 use borrow.Author.Needs.{needs}
-use Rattle.lists.specs.Tests.{cases}
 use Rattle.store.specs.Step.{taken}
 use Rattle.store.proofs.steps.take.Statement.{statement}
 use Rattle.store.proofs.steps.take.Tie as tie
@@ -98,6 +96,12 @@ enum-known-command-10 c = search needs
 report-requires : tie.Need-report-requires
 report-requires c κs = search needs
 
+enum-known-command-11 : tie.Need-enum-known-command-11
+enum-known-command-11 c = search needs
+
+bare-requires-10 : tie.Need-bare-requires-10
+bare-requires-10 c κs = search needs
+
 returns : tie.Need-returns
 unfolding taken
 returns c = (rw (c .before .before .before .before .command .given .1) (c .before .request .ensures .0), (rw (c .before .before .before .before .command .given .1), rw (c .before .before .before .before .command .given .1, ← (c .before .request .ensures .1)) (c .bare .ensures)))
@@ -138,5 +142,9 @@ returns-10 : tie.Need-returns-10
 unfolding taken
 returns-10 c = (rw (c .before .before .before .command10 .given .1) (c .report .ensures .0), (rw (c .before .before .before .command10 .given .1), rw (c .before .before .before .command10 .given .1) (c .report .ensures .1)))
 
+returns-11 : tie.Need-returns-11
+unfolding taken
+returns-11 c = (rw (c .before .before .command11 .given .1), (rw (c .before .before .command11 .given .1), rw (c .before .before .command11 .given .1) (c .bare10 .ensures)))
+
 pub take-spec : {M : Type 1} → statement M
-take-spec = tie.close (tie.spec enum-known-command request-requires bare-requires enum-known-command-2 request-requires-2 bare-requires-2 enum-known-command-3 perform-requires bare-requires-3 enum-known-command-4 send-read-requires bare-requires-4 enum-known-command-5 send-update-requires bare-requires-5 enum-known-command-6 dispatch-requires bare-requires-6 enum-known-command-7 take-broadcast-requires number-of-requires bare-requires-7 enum-known-command-8 take-single-requires number-of-requires-2 bare-requires-8 enum-known-command-9 deliver-requires bare-requires-9 enum-known-command-10 report-requires returns returns-2 returns-3 returns-4 returns-5 returns-6 returns-7 returns-8 returns-9 returns-10)
+take-spec = tie.close (tie.spec enum-known-command request-requires bare-requires enum-known-command-2 request-requires-2 bare-requires-2 enum-known-command-3 perform-requires bare-requires-3 enum-known-command-4 send-read-requires bare-requires-4 enum-known-command-5 send-update-requires bare-requires-5 enum-known-command-6 dispatch-requires bare-requires-6 enum-known-command-7 take-broadcast-requires number-of-requires bare-requires-7 enum-known-command-8 take-single-requires number-of-requires-2 bare-requires-8 enum-known-command-9 deliver-requires bare-requires-9 enum-known-command-10 report-requires enum-known-command-11 bare-requires-10 returns returns-2 returns-3 returns-4 returns-5 returns-6 returns-7 returns-8 returns-9 returns-10 returns-11)

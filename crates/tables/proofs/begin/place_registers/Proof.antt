@@ -5,6 +5,7 @@ use lib.ListN.{length}
 use Rattle.lists.specs.Loops.{turns-zero, turns-more, turns}
 use borrow.Author.Needs.{needs}
 use Rattle.tables.specs.Start.{registerSet}
+use Rattle.lists.specs.Loops.{turns}
 use Rattle.tables.proofs.begin.place_registers.Statement.{statement}
 use Rattle.tables.proofs.begin.place_registers.Tie as tie
 
@@ -20,17 +21,14 @@ loop-holds c = (search needs, sym (turns-zero _ _))
 byte-requires : tie.Need-byte-requires Inv-loop μ-loop
 byte-requires c κs = search needs
 
-add-registers : tie.Need-add-registers Inv-loop μ-loop
-add-registers c = search needs
+byte-requires-2 : tie.Need-byte-requires-2 Inv-loop μ-loop
+byte-requires-2 c κs = search needs
 
 mul-registers : tie.Need-mul-registers Inv-loop μ-loop
 mul-registers c = search needs
 
-element-write-registers : tie.Need-element-write-registers Inv-loop μ-loop
-element-write-registers c = search needs
-
-byte-requires-2 : tie.Need-byte-requires-2 Inv-loop μ-loop
-byte-requires-2 c κs = search needs
+add-registers : tie.Need-add-registers Inv-loop μ-loop
+add-registers c = search needs
 
 add-registers-2 : tie.Need-add-registers-2 Inv-loop μ-loop
 add-registers-2 c = search needs
@@ -38,8 +36,8 @@ add-registers-2 c = search needs
 mul-registers-2 : tie.Need-mul-registers-2 Inv-loop μ-loop
 mul-registers-2 c = search needs
 
-element-write-registers-2 : tie.Need-element-write-registers-2 Inv-loop μ-loop
-element-write-registers-2 c = search needs
+element-write-registers : tie.Need-element-write-registers Inv-loop μ-loop
+element-write-registers c = search needs
 
 add-x : tie.Need-add-x Inv-loop μ-loop
 add-x c = search needs
@@ -62,13 +60,12 @@ place-registers-spec =
     μ-loop
     loop-holds
     byte-requires
-    add-registers
-    mul-registers
-    element-write-registers
     byte-requires-2
+    mul-registers
+    add-registers
     add-registers-2
     mul-registers-2
-    element-write-registers-2
+    element-write-registers
     add-x
     loop-less
     loop-again

@@ -5,6 +5,7 @@ use lib.ListN.{length}
 use Rattle.lists.specs.Loops.{turns-zero, turns-more, turns}
 use borrow.Author.Needs.{needs}
 use Rattle.tables.specs.Start.{homeSet}
+use Rattle.lists.specs.Loops.{turns}
 use Rattle.tables.proofs.begin.place_tasks.Statement.{statement}
 use Rattle.tables.proofs.begin.place_tasks.Tie as tie
 
@@ -23,11 +24,14 @@ byte-requires c κs = search needs
 mul-registers : tie.Need-mul-registers Inv-loop μ-loop
 mul-registers c = search needs
 
+mul-registers-2 : tie.Need-mul-registers-2 Inv-loop μ-loop
+mul-registers-2 c = search needs
+
 add-registers : tie.Need-add-registers Inv-loop μ-loop
 add-registers c = search needs
 
-mul-registers-2 : tie.Need-mul-registers-2 Inv-loop μ-loop
-mul-registers-2 c = search needs
+mul-registers-3 : tie.Need-mul-registers-3 Inv-loop μ-loop
+mul-registers-3 c = search needs
 
 element-write-registers : tie.Need-element-write-registers Inv-loop μ-loop
 element-write-registers c = search needs
@@ -54,8 +58,9 @@ place-tasks-spec =
     loop-holds
     byte-requires
     mul-registers
-    add-registers
     mul-registers-2
+    add-registers
+    mul-registers-3
     element-write-registers
     add-t
     loop-less

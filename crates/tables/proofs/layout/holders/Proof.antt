@@ -1,11 +1,7 @@
-use Rattle.lists.specs.Tests.{cases}
-use Rattle.tables.specs.Layout.{holdersOf}
+use Rattle.tables.specs.Layout.{holdersIn}
 use borrow.Author.Needs.{needs}
 use Rattle.tables.proofs.layout.holders.Statement.{statement}
 use Rattle.tables.proofs.layout.holders.Tie as tie
-use Rattle.tables.proofs.layout.holders.Reads as reads
-use Rattle.tables.proofs.layout.holders.Lts as lts
-use Rattle.tables.proofs.layout.register_place.Reads as register-place-reads
 
 register-place-requires : tie.Need-register-place-requires
 register-place-requires c κs = search needs
@@ -20,7 +16,7 @@ element-copy-out-result : tie.Need-element-copy-out-result
 element-copy-out-result c = search needs
 
 returns : tie.Need-returns
-unfolding holdersOf
+unfolding holdersIn
 returns c = rw (← (c .before .register-place .ensures .0))
 
 pub holders-spec : {M : Type 1} → statement M

@@ -1,31 +1,39 @@
-use Rattle.lists.specs.Tests.{cases}
+use mathlib.Core.Path.{_∙_}
 use Rattle.tables.specs.Layout.{homeOf}
 use borrow.Author.Needs.{needs}
 use Rattle.tables.proofs.layout.home.Statement.{statement}
 use Rattle.tables.proofs.layout.home.Tie as tie
-use Rattle.tables.proofs.layout.home.Reads as reads
-use Rattle.tables.proofs.layout.home.Lts as lts
-use Rattle.tables.proofs.layout.task_place.Reads as task-place-reads
 
 task-place-requires : tie.Need-task-place-requires
 task-place-requires c κs = search needs
 
-mul-t4 : tie.Need-mul-t4
-mul-t4 c = search needs
+mul-home-in : tie.Need-mul-home-in
+mul-home-in c = search needs
 
-add-t5 : tie.Need-add-t5
-add-t5 c = search needs
+add-home-in : tie.Need-add-home-in
+add-home-in c = search needs
 
-mul-t6 : tie.Need-mul-t6
-mul-t6 c = search needs
+mul-home-in-2 : tie.Need-mul-home-in-2
+mul-home-in-2 c = search needs
 
-element-copy-out-t9 : tie.Need-element-copy-out-t9
-element-copy-out-t9 c = search needs
+element-copy-out-home-in : tie.Need-element-copy-out-home-in
+element-copy-out-home-in c = search needs
+
+home-in-requires : tie.Need-home-in-requires
+home-in-requires c κs = search needs
 
 returns : tie.Need-returns
 unfolding homeOf
-returns c = rw (← (c .before .task-place .ensures .0))
+returns c = rw (← (c .before .before .task-place .ensures .0)) (c .home-in .ensures .0)
 
 pub home-spec : {M : Type 1} → statement M
 home-spec =
-    tie.close (tie.spec task-place-requires mul-t4 add-t5 mul-t6 element-copy-out-t9 returns)
+    tie.close
+    (tie.spec
+    task-place-requires
+    mul-home-in
+    add-home-in
+    mul-home-in-2
+    element-copy-out-home-in
+    home-in-requires
+    returns)

@@ -1,11 +1,7 @@
-use Rattle.lists.specs.Tests.{cases}
-use Rattle.tables.specs.Layout.{primaryOf}
+use Rattle.tables.specs.Layout.{primaryIn}
 use borrow.Author.Needs.{needs}
 use Rattle.tables.proofs.layout.primary.Statement.{statement}
 use Rattle.tables.proofs.layout.primary.Tie as tie
-use Rattle.tables.proofs.layout.primary.Reads as reads
-use Rattle.tables.proofs.layout.primary.Lts as lts
-use Rattle.tables.proofs.layout.register_place.Reads as register-place-reads
 
 register-place-requires : tie.Need-register-place-requires
 register-place-requires c κs = search needs
@@ -20,7 +16,7 @@ element-copy-out-t8 : tie.Need-element-copy-out-t8
 element-copy-out-t8 c = search needs
 
 returns : tie.Need-returns
-unfolding primaryOf
+unfolding primaryIn
 returns c = rw (← (c .before .register-place .ensures .0))
 
 pub primary-spec : {M : Type 1} → statement M

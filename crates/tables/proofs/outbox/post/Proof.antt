@@ -1,14 +1,8 @@
 use borrow.Author.Tests.{lt-ltb, le-ltb}
-use Rattle.tables.specs.Outbox.{roomy}
-use Rattle.lists.specs.Tests.{cases}
 use Rattle.tables.specs.Outbox.{posted}
 use borrow.Author.Needs.{needs}
 use Rattle.tables.proofs.outbox.post.Statement.{statement}
 use Rattle.tables.proofs.outbox.post.Tie as tie
-use Rattle.tables.proofs.outbox.post.Reads as reads
-use Rattle.tables.proofs.outbox.post.Lts as lts
-use Rattle.tables.proofs.layout.card_place.Reads as card-place-reads
-use Rattle.tables.proofs.outbox.store_letter.Reads as store-letter-reads
 
 card-place-requires : tie.Need-card-place-requires
 card-place-requires c κs = search needs
@@ -35,7 +29,7 @@ element-copy-out-count : tie.Need-element-copy-out-count
 element-copy-out-count c = search needs
 
 returns : tie.Need-returns
-unfolding posted roomy
+unfolding posted
 returns c = simp (← (c .before .before .before .card-place .ensures .0), le-ltb _ _ (c .if1 .taken))
 
 mul-block : tie.Need-mul-block
@@ -50,11 +44,17 @@ add-block-2 c = search needs
 cast-block : tie.Need-cast-block
 cast-block c = search needs
 
+mul-block-2 : tie.Need-mul-block-2
+mul-block-2 c = search needs
+
 add-block-3 : tie.Need-add-block-3
 add-block-3 c = search needs
 
-store-letter-requires : tie.Need-store-letter-requires
-store-letter-requires c κs = search needs
+packet-of-requires : tie.Need-packet-of-requires
+packet-of-requires c κs = search needs
+
+store-requires : tie.Need-store-requires
+store-requires c κs = search needs
 
 add-registers : tie.Need-add-registers
 add-registers c = search needs
@@ -69,8 +69,8 @@ element-write-registers : tie.Need-element-write-registers
 element-write-registers c = search needs
 
 returns-2 : tie.Need-returns-2
-unfolding posted roomy
-returns-2 c = simp (← (c .before .before .before .before .before .card-place .ensures .0), lt-ltb _ _ (c .before .before .if1 .left), c .store-letter .ensures)
+unfolding posted
+returns-2 c = simp (← (c .before .before .before .before .before .before .card-place .ensures .0), lt-ltb _ _ (c .before .before .before .if1 .left), c .store .ensures, c .before .packet-of .ensures)
 
 pub post-spec : {M : Type 1} → statement M
 post-spec =
@@ -89,8 +89,10 @@ post-spec =
     add-block
     add-block-2
     cast-block
+    mul-block-2
     add-block-3
-    store-letter-requires
+    packet-of-requires
+    store-requires
     add-registers
     add-registers-2
     mul-registers

@@ -1,5 +1,7 @@
+use Rattle.tables.specs.Outbox.{outPlace}
+use mathlib.Core.Path.{_∙_}
+use Rattle.channel.proofs.Offered.{word-fits-at}
 use Rattle.tables.specs.Sized.{outFits}
-use Rattle.channel.specs.Sized.{blockFits}
 use borrow.Author.Needs.{needs}
 use Rattle.tables.proofs.sized.out_fits.Statement.{statement}
 use Rattle.tables.proofs.sized.out_fits.Tie as tie
@@ -31,39 +33,24 @@ add-block-2 c = search needs
 cast-block : tie.Need-cast-block
 cast-block c = search needs
 
+mul-block-2 : tie.Need-mul-block-2
+mul-block-2 c = search needs
+
 add-block-3 : tie.Need-add-block-3
 add-block-3 c = search needs
 
-mul-kind : tie.Need-mul-kind
-mul-kind c = search needs
+mul-word-fits : tie.Need-mul-word-fits
+mul-word-fits c = search needs
 
-mul-kind-2 : tie.Need-mul-kind-2
-mul-kind-2 c = search needs
+element-copy-out-word-fits : tie.Need-element-copy-out-word-fits
+element-copy-out-word-fits c = search needs
 
-element-copy-out-kind : tie.Need-element-copy-out-kind
-element-copy-out-kind c = search needs
-
-mul-tag : tie.Need-mul-tag
-mul-tag c = search needs
-
-add-tag : tie.Need-add-tag
-add-tag c = search needs
-
-mul-tag-2 : tie.Need-mul-tag-2
-mul-tag-2 c = search needs
-
-element-copy-out-tag : tie.Need-element-copy-out-tag
-element-copy-out-tag c = search needs
-
-load-letter-requires : tie.Need-load-letter-requires
-load-letter-requires c κs = search needs
-
-fits-requires : tie.Need-fits-requires
-fits-requires c κs = search needs
+word-fits-requires : tie.Need-word-fits-requires
+word-fits-requires c κs = search needs
 
 returns : tie.Need-returns
-unfolding outFits blockFits
-returns c = rw (c .fits2 .ensures, c .before .load-letter .ensures, ← (c .before .before .before .before .before .card-place .ensures .0))
+unfolding outFits
+returns c = c .word-fits .ensures ∙ rw (c .before .before .before .before .pre .0, c .before .before .before .card-place .ensures .0) (word-fits-at (c .before .before .before .before .args .channel .now) (c .before .before .before .before .args .registers .now) (outPlace (c .before .before .before .before .args .registers .now) (c .before .before .before .before .args .card .0) (c .before .before .before .before .args .k)))
 
 pub out-fits-spec : {M : Type 1} → statement M
 out-fits-spec =
@@ -78,14 +65,9 @@ out-fits-spec =
     add-block
     add-block-2
     cast-block
+    mul-block-2
     add-block-3
-    mul-kind
-    mul-kind-2
-    element-copy-out-kind
-    mul-tag
-    add-tag
-    mul-tag-2
-    element-copy-out-tag
-    load-letter-requires
-    fits-requires
+    mul-word-fits
+    element-copy-out-word-fits
+    word-fits-requires
     returns)

@@ -1,31 +1,26 @@
-use Rattle.lists.specs.Every.{each-zero, each-more, each-fails, each}
-use borrow.Author.Tests.{not-true, not-false}
-use native.Mathlib.Omega.{arith}
-use mathlib.Core.Bool.{true}
-use mathlib.Core.Path.{_≡_, sym, _∙_}
 use Prim.Native.Nat.{_-_, _≤_}
+use mathlib.Core.Path.{_≡_, sym, _∙_}
+use native.Mathlib.Omega.{arith}
+use Rattle.lists.specs.Every.{each, each-zero, each-next}
 use borrow.Author.Needs.{needs}
 use Rattle.tables.specs.Sized.{registerFits}
 use Rattle.tables.proofs.sized.register_all.Statement.{statement}
 use Rattle.tables.proofs.sized.register_all.Tie as tie
 
 abbrev Inv-loop : tie.InvT-loop
-Inv-loop registers channel n x₀ x = (x ≤ n) × (each x (registerFits registers channel) ≡ true)
+Inv-loop registers channel limits n all₀ x₀ all x = (x ≤ n) × (all ≡ each x (registerFits registers channel))
 
 abbrev μ-loop : tie.MeasureT-loop
-μ-loop registers channel n x₀ x = n - x
+μ-loop registers channel limits n all₀ x₀ all x = n - x
 
 registers-requires : tie.Need-registers-requires Inv-loop μ-loop
 registers-requires c κs = search needs
 
 loop-holds : tie.Need-loop-holds Inv-loop μ-loop
-loop-holds c = (omega arith, each-zero _)
+loop-holds c = (omega arith, sym (each-zero _))
 
 register-fits-requires : tie.Need-register-fits-requires Inv-loop μ-loop
 register-fits-requires c κs = search needs
-
-returns : tie.Need-returns Inv-loop μ-loop
-returns c = rw (← (c .before .before .before .before .registers .ensures .0)) (sym (each-fails _ _ (c .before .before .before .loop .x) (omega arith) (sym (c .before .register-fits .ensures) ∙ not-true _ (c .if1 .taken))))
 
 add-x : tie.Need-add-x Inv-loop μ-loop
 add-x c = search needs
@@ -34,10 +29,10 @@ loop-less : tie.Need-loop-less Inv-loop μ-loop
 loop-less c = search needs
 
 loop-again : tie.Need-loop-again Inv-loop μ-loop
-loop-again c = (omega arith, each-more _ _ (c .before .before .before .loop .inv .1) (sym (c .before .register-fits .ensures) ∙ not-false _ (c .if1 .left)))
+loop-again c = (omega arith, rw (each-next, ← (c .before .before .loop .inv .1), ← (c .register-fits .ensures)))
 
-returns-2 : tie.Need-returns-2 Inv-loop μ-loop
-returns-2 c = let e : c .before .loop .x ≡ c .before .before .registers .result = omega arith in rw (← (c .before .before .registers .ensures .0), ← e) (sym (c .before .loop .inv .1))
+returns : tie.Need-returns Inv-loop μ-loop
+returns c = let e : c .before .loop .x ≡ c .before .before .registers .result = omega arith in rw (← (c .before .before .registers .ensures .0), ← e) (c .before .loop .inv .1)
 
 pub register-all-spec : {M : Type 1} → statement M
 register-all-spec =
@@ -48,8 +43,7 @@ register-all-spec =
     registers-requires
     loop-holds
     register-fits-requires
-    returns
     add-x
     loop-less
     loop-again
-    returns-2)
+    returns)

@@ -1,25 +1,27 @@
+use Rattle.tables.specs.Layout.{holdersIn, primaryIn}
+use mathlib.Core.Path.{_∙_}
+use Rattle.channel.proofs.Offered.{limits-are}
 use Rattle.tables.specs.Sized.{registerFits}
 use borrow.Author.Needs.{needs}
 use Rattle.tables.proofs.sized.register_fits.Statement.{statement}
 use Rattle.tables.proofs.sized.register_fits.Tie as tie
 
-cards-requires : tie.Need-cards-requires
-cards-requires c κs = search needs
+register-place-requires : tie.Need-register-place-requires
+register-place-requires c κs = search needs
 
-holders-requires : tie.Need-holders-requires
-holders-requires c κs = search needs
+add-word : tie.Need-add-word
+add-word c = search needs
 
-all-present-requires : tie.Need-all-present-requires
-all-present-requires c κs = search needs
+mul-word : tie.Need-mul-word
+mul-word c = search needs
 
-primary-requires : tie.Need-primary-requires
-primary-requires c κs = search needs
+element-copy-out-word : tie.Need-element-copy-out-word
+element-copy-out-word c = search needs
 
 returns : tie.Need-returns
-unfolding registerFits
-returns c = rw (c .before .before .all-present .ensures, c .before .before .before .holders .ensures, c .before .primary .ensures, c .before .before .before .before .cards .ensures .0)
+unfolding registerFits holdersIn primaryIn
+returns c = rw (c .before .before .before .before .pre ∙ limits-are _, ← (c .before .before .before .register-place .ensures .0))
 
 pub register-fits-spec : {M : Type 1} → statement M
 register-fits-spec =
-    tie.close
-    (tie.spec cards-requires holders-requires all-present-requires primary-requires returns)
+    tie.close (tie.spec register-place-requires add-word mul-word element-copy-out-word returns)

@@ -3,6 +3,9 @@ use borrow.Author.Needs.{needs}
 use Rattle.tables.proofs.sized.registers_sized.Statement.{statement}
 use Rattle.tables.proofs.sized.registers_sized.Tie as tie
 
+limits-of-requires : tie.Need-limits-of-requires
+limits-of-requires c κs = search needs
+
 element-copy-out-result : tie.Need-element-copy-out-result
 element-copy-out-result c = search needs
 
@@ -23,6 +26,7 @@ pub registers-sized-spec : {M : Type 1} → statement M
 registers-sized-spec =
     tie.close
     (tie.spec
+    limits-of-requires
     element-copy-out-result
     task-all-requires
     register-all-requires
