@@ -142,13 +142,10 @@ impl Store {
         argument: u64,
         step: impl FnOnce(&mut Store, usize) -> Answer,
     ) -> Answer {
-        if argument > 0xFF {
-            return refused(11);
+        match named(argument, self.tasks, 12) {
+            Ok(task) => step(self, task & 15),
+            Err(refusal) => refused(refusal),
         }
-        if argument >= self.tasks as u64 {
-            return refused(12);
-        }
-        step(self, argument as usize & 15)
     }
 
     /// The same, where it is a card.
@@ -157,12 +154,21 @@ impl Store {
         argument: u64,
         step: impl FnOnce(&mut Store, usize) -> Answer,
     ) -> Answer {
-        if argument > 0xFF {
-            return refused(11);
+        match named(argument, self.cards, 14) {
+            Ok(card) => step(self, card & 7),
+            Err(refusal) => refused(refusal),
         }
-        if argument >= self.cards as u64 {
-            return refused(14);
-        }
-        step(self, argument as usize & 7)
     }
+}
+
+/// What byte 0 alone names: one of so many, else the refusal.
+#[inline]
+fn named(argument: u64, count: u32, absent: u8) -> Result<usize, u8> {
+    if argument > 0xFF {
+        return Err(11);
+    }
+    if argument >= count as u64 {
+        return Err(absent);
+    }
+    Ok(argument as usize)
 }

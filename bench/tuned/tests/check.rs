@@ -34,12 +34,8 @@ fn limits() {
         for _ in 0..8 {
             let words = written(&state, &mut random);
             for row in rows(&words) {
-                for (value, fine) in row.values {
-                    let mut changed = words.clone();
-                    match row.channel {
-                        true => changed.channel[row.at] = value,
-                        false => changed.registers[row.at] = value,
-                    }
+                for &(value, fine) in &row.values {
+                    let changed = row.with(&words, value);
                     let name = &row.name;
                     let found = passes(&store_of(&changed));
                     assert_eq!(found, fine, "{sizes:?}, {name}: word {} is {value}", row.at);

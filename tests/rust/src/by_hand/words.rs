@@ -98,12 +98,8 @@ mod tests {
             for _ in 0..8 {
                 let words = written(&state, &mut random);
                 for row in rows(&words) {
-                    for (value, fine) in row.values {
-                        let mut changed = words.clone();
-                        match row.channel {
-                            true => changed.channel[row.at] = value,
-                            false => changed.registers[row.at] = value,
-                        }
+                    for &(value, fine) in &row.values {
+                        let changed = row.with(&words, value);
                         let found = well_sized(&changed.registers, &changed.channel);
                         let name = &row.name;
                         assert_eq!(found, fine, "{sizes:?}, {name}: word {} is {value}", row.at);

@@ -10,6 +10,18 @@ pub struct Row {
     pub values: Vec<(u32, bool)>,
 }
 
+impl Row {
+    /// The words with this number in the row's one.
+    pub fn with(&self, words: &Words, value: u32) -> Words {
+        let mut changed = words.clone();
+        match self.channel {
+            true => changed.channel[self.at] = value,
+            false => changed.registers[self.at] = value,
+        }
+        changed
+    }
+}
+
 pub const MOST: u32 = u32::MAX;
 
 /// The rows of a store in the making.
