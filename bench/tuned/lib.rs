@@ -12,8 +12,9 @@
 //! Left out on purpose, though all of it together is quicker: code shaped for the vectoriser or to have
 //! no branches (many messages tested at once, picks in place of branches), reading codes ahead, and
 //! inlining the step into the loop of a whole run. So this is not the least time that Rust can take.
-//! Above all in the check: here it leaves at the first fault and takes messages one by one, while the
-//! proved check has no early return, so that its compiler tests several at once.
+//! In the check the loops over registers, tasks and broadcasts have no way out between their turns;
+//! those over flights and a card's queues leave at the first fault, where the proved check's queues
+//! have no way out either.
 
 #![cfg_attr(not(test), no_std)]
 #![forbid(unsafe_code)]

@@ -107,7 +107,7 @@ tagged-fits ws b e h = and-intro e (le-leb _ _ h)
 -- ---- the tests on a packed word are those of its letter
 
 -- of the four kinds only an update has a function
-function-known : (k f v : ℕ) → known (bodyOf k f v) ≡ functionFits k f
+pub function-known : (k f v : ℕ) → known (bodyOf k f v) ≡ functionFits k f
 unfolding functionFits bodyOf known
 function-known k f v = go (ℕ-discrete k 2)
   where

@@ -1,6 +1,6 @@
 // Step 7: a card takes the next broadcast, and what waited for it joins.
 ghost use mathlib.Core.Path.{_≡_};
-ghost use lib.Dec.{eqb, leb};
+ghost use lib.Dec.{leb};
 ghost use Prim.Native.Nat.{_<_, _≤_, _+_};
 ghost use Rattle.channel.specs.TakeBroadcast.{readyAt, releasableOf, broadcastAt, broadcastsOf, sweptWords, sweptKept, releasedWords, arrived, joined, roomAnswer, nextAnswer, nextMemory, takeAnswer, takeMemory};
 use super::answers::done;
@@ -27,20 +27,13 @@ use names::Card;
 use names::Packet;
 use names::wide;
 
-// Whether a message with this tag waits for broadcast n.
-fn waits(tag: BroadcastNumber, n: BroadcastNumber) -> bool
-    ensures { λ r. ⌜ r ≡ eqb (tag .0) (n .0) ⌝ }
-{
-    tag.0 == n.0
-}
-
 // 1 where the held message k of a card waits for broadcast n, else 0.
 fn ready(memory: &[u32; 1364], card: Card, n: BroadcastNumber, k: usize) -> usize
     requires { ⌜ (card .0 < 8) × (k < 16) ⌝ }
     ensures { λ r. ⌜ (r ≡ readyAt (now (memory .entry)) (card .0) (n .0) k) × (r ≤ 1) ⌝ }
 {
     let tag = tag_at(memory, held_block(card, k));
-    if waits(tag, n) {
+    if tag.0 == n.0 {
         return 1;
     }
     0
@@ -70,7 +63,7 @@ fn sweep(memory: &mut [u32; 1364], card: Card, n: BroadcastNumber, k: usize, kep
     let block = held_block(card, k);
     let packet = load(memory, block);
     let tag = tag_at(memory, block);
-    if waits(tag, n) {
+    if tag.0 == n.0 {
         push(memory, card, packet);
         return kept;
     }

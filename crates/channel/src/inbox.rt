@@ -56,17 +56,6 @@ fn drop_first(memory: &mut [u32; 1364], card: Card)
     set_count(memory, card, count - 1);
 }
 
-// The first letter of a card's inbox leaves it, and its message is handed up.
-fn pop(memory: &mut [u32; 1364], card: Card) -> Received
-    requires { ⌜ card .0 < 8 ⌝ }
-    ensures left { λ _. ⌜ now (memory .exit) ≡ popped (now (memory .entry)) (card .0) ⌝ }
-    ensures got { λ r. ⌜ r ≡ gotOf (now (memory .entry)) (card .0) ⌝ }
-{
-    let got = first(memory, card);
-    drop_first(memory, card);
-    got
-}
-
 // The message at the head of a card's inbox, which stays there: what `receive` would hand up.
 pub fn head(memory: &[u32; 1364], card: Card) -> Received
     ensures { λ r. ⌜ r ≡ receiveAnswer (now (memory .entry)) card ⌝ }
@@ -85,5 +74,7 @@ pub fn receive(memory: &mut [u32; 1364], card: Card) -> Received
     if cards(memory) <= card.0 {
         return Received::NoSuchCard;
     }
-    pop(memory, card)
+    let got = first(memory, card);
+    drop_first(memory, card);
+    got
 }

@@ -1,6 +1,6 @@
 // Where things lie in the channel's memory, its sizes, and its start.
 ghost use mathlib.Core.Path.{_≡_};
-ghost use Prim.Native.Nat.{_<_, _≤_, _%_, _^_, min};
+ghost use Prim.Native.Nat.{_<_, _≤_, _%_, min};
 ghost use lib.ListN.{set};
 ghost use Rattle.channel.specs.Layout.{cardsOf, tasksOf, registersOf, madeOf, takenOf, headOf, countOf, heldCountOf, takenWord, headWord, countWord, heldWord, inboxBlock, placeOf, heldBlock, flightBlock, broadcastBlock, takenBy};
 ghost use Rattle.channel.specs.Letters.{limitsOf};
@@ -73,14 +73,6 @@ pub fn registers(memory: &[u32; 1364]) -> u32
     capped(memory[REGISTERS], 32)
 }
 
-// How many sets of so many cards there are.
-fn sets(cards: u32) -> u32
-    requires { ⌜ cards < 32 ⌝ }
-    ensures { λ r. ⌜ r ≡ 2 ^ cards ⌝ }
-{
-    1 << cards
-}
-
 // What the numbers in a state are below.
 pub fn limits_of(memory: &[u32; 1364]) -> Limits
     ensures { λ r. ⌜ r ≡ limitsOf (now (memory .entry)) ⌝ }
@@ -88,7 +80,7 @@ pub fn limits_of(memory: &[u32; 1364]) -> Limits
     let cards = cards(memory);
     Limits {
         cards: cards,
-        sets: sets(cards),
+        sets: 1 << cards,
         tasks: tasks(memory),
         registers: registers(memory),
     }

@@ -1,14 +1,13 @@
-// Packets in the memory, and what of a letter is past its limit.
+// Packets in the memory, and what of a letter in one is past its limit.
 ghost use mathlib.Core.Path.{_≡_};
 ghost use Prim.Native.Nat.{_<_, _≤_};
-ghost use Rattle.names.specs.Letters.{packetAt, letterAt, kindAt, tagAt, stored, marked};
-ghost use Rattle.channel.specs.Letters.{addressed, fits, wordFits};
+ghost use Rattle.names.specs.Letters.{letterOf, packetAt, letterAt, kindAt, tagAt, stored, marked};
+ghost use Rattle.channel.specs.Letters.{fits, wordFits};
 use super::layout::cards;
 use super::layout::registers;
 use super::layout::tasks;
 use crate::Limits;
 use names::BroadcastNumber;
-use names::Letter;
 use names::Packet;
 
 // The kind, the destinations and the tag at a place.
@@ -62,24 +61,19 @@ pub(crate) fn mark(memory: &mut [u32; 1364], block: usize, packet: Packet, tag: 
     memory[block + 2] = tag.0;
 }
 
-// Whether there is a destination and each is a present card.
-fn addressed(memory: &[u32; 1364], to: u32) -> bool
-    ensures { λ r. ⌜ r ≡ addressed (now (memory .entry)) to ⌝ }
+// Whether no field of the letter that a packet carries is past its limit, there is a destination, and each is a present card.
+pub(crate) fn fits(memory: &[u32; 1364], packet: Packet) -> bool
+    ensures { λ r. ⌜ r ≡ fits (now (memory .entry)) (letterOf packet) ⌝ }
 {
-    if to < 1 {
-        return false;
-    }
-    to >> cards(memory) == 0
-}
-
-// Whether no field of a letter is past its limit.
-pub(crate) fn fits(memory: &[u32; 1364], letter: Letter) -> bool
-    ensures { λ r. ⌜ r ≡ fits (now (memory .entry)) letter ⌝ }
-{
-    let message = letter.message;
-    let body = message.body;
-    let placed = (message.task.0 < tasks(memory)) & (message.register.0 < registers(memory));
-    placed & names::letters::known(body) & addressed(memory, letter.to)
+    let word = packet.word;
+    let to = names::letters::to_in(word);
+    let task = names::letters::task_in(word);
+    let register = names::letters::register_in(word);
+    let placed = (task.0 < tasks(memory)) & (register.0 < registers(memory));
+    let kind = names::letters::kind_in(word);
+    let known = names::letters::function_fits(kind, names::letters::function_in(word));
+    let present = names::placement::all_present(to, cards(memory));
+    placed & known & ((1 <= to) & present)
 }
 
 // Whether a packet's first word is of a message with no field past its limit.

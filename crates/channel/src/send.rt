@@ -1,6 +1,7 @@
 // Step 6, the channel's part: a message goes to its destinations.
 ghost use mathlib.Core.Path.{_≡_};
 ghost use Prim.Native.Nat.{_<_, _≤_};
+ghost use Rattle.names.specs.Letters.{letterOf};
 ghost use Rattle.channel.specs.Dispatch.{nearAt, near, castAnswer, castMemory, flyAnswer, flyMemory, dispatchAnswer, dispatchMemory};
 use super::layout::MADE;
 use super::layout::broadcast_block;
@@ -15,8 +16,10 @@ use super::single::no_flight;
 use crate::Answer;
 use names::BroadcastNumber;
 use names::Card;
-use names::Letter;
-use names::Message;
+use names::Packet;
+use names::letters::repacked;
+use names::letters::task_in;
+use names::letters::to_in;
 use names::wide;
 
 // Whether one broadcast more leaves a card at most 64 behind.
@@ -45,14 +48,14 @@ fn near(memory: &[u32; 1364]) -> bool
 }
 
 // A letter to more cards than one becomes the next broadcast.
-fn cast(memory: &mut [u32; 1364], letter: Letter) -> Answer
-    ensures memory { λ _. ⌜ now (memory .exit) ≡ castMemory (now (memory .entry)) letter ⌝ }
-    ensures answer { λ r. ⌜ r ≡ castAnswer (now (memory .entry)) letter ⌝ }
+fn cast(memory: &mut [u32; 1364], packet: Packet) -> Answer
+    ensures memory { λ _. ⌜ now (memory .exit) ≡ castMemory (now (memory .entry)) (letterOf packet) ⌝ }
+    ensures answer { λ r. ⌜ r ≡ castAnswer (now (memory .entry)) (letterOf packet) ⌝ }
 {
     if !near(memory) {
         return Answer::FarBehind;
     }
-    if !fits(memory, letter) {
+    if !fits(memory, packet) {
         return Answer::IllSized;
     }
     let last = made(memory);
@@ -60,53 +63,39 @@ fn cast(memory: &mut [u32; 1364], letter: Letter) -> Answer
         return Answer::IllSized;
     }
     let next = BroadcastNumber(last.0 + 1);
-    store(
-        memory,
-        broadcast_block(next),
-        names::letters::packet_of(letter),
-    );
+    store(memory, broadcast_block(next), repacked(packet));
     memory[MADE] = next.0;
     Answer::Done
 }
 
 // A letter to one card is in flight, tagged with the number of broadcasts that the card, which sends it, has taken.
-fn fly(memory: &mut [u32; 1364], card: Card, letter: Letter) -> Answer
+fn fly(memory: &mut [u32; 1364], card: Card, packet: Packet) -> Answer
     requires { ⌜ card .0 < 8 ⌝ }
-    ensures memory { λ _. ⌜ now (memory .exit) ≡ flyMemory (now (memory .entry)) (card .0) letter ⌝ }
-    ensures answer { λ r. ⌜ r ≡ flyAnswer (now (memory .entry)) letter ⌝ }
+    ensures memory { λ _. ⌜ now (memory .exit) ≡ flyMemory (now (memory .entry)) (card .0) (letterOf packet) ⌝ }
+    ensures answer { λ r. ⌜ r ≡ flyAnswer (now (memory .entry)) (letterOf packet) ⌝ }
 {
-    if !fits(memory, letter) {
+    if !fits(memory, packet) {
         return Answer::IllSized;
     }
-    let message = letter.message;
-    let task = message.task;
+    let task = task_in(packet.word);
     if !no_flight(memory, task) {
         return Answer::IllSized;
     }
     let tag = taken_of(memory, card);
-    mark(
-        memory,
-        flight_block(task),
-        names::letters::packet_of(letter),
-        tag,
-    );
+    mark(memory, flight_block(task), repacked(packet), tag);
     Answer::Done
 }
 
-// Step 6, the channel's part: the message goes to its destinations.
-pub fn dispatch(memory: &mut [u32; 1364], card: Card, message: Message, destinations: u32) -> Answer
-    ensures memory { λ _. ⌜ now (memory .exit) ≡ dispatchMemory (now (memory .entry)) card message destinations ⌝ }
-    ensures answer { λ r. ⌜ r ≡ dispatchAnswer (now (memory .entry)) card message destinations ⌝ }
+// Step 6, the channel's part: the message in a packet goes to its destinations. It is never taken out of the packet.
+pub fn dispatch(memory: &mut [u32; 1364], card: Card, packet: Packet) -> Answer
+    ensures memory { λ _. ⌜ now (memory .exit) ≡ dispatchMemory (now (memory .entry)) card (letterOf packet .message) (letterOf packet .to) ⌝ }
+    ensures answer { λ r. ⌜ r ≡ dispatchAnswer (now (memory .entry)) card (letterOf packet .message) (letterOf packet .to) ⌝ }
 {
     if cards(memory) <= card.0 {
         return Answer::NoCard;
     }
-    let letter = Letter {
-        message: message,
-        to: destinations,
-    };
-    if names::several(destinations) {
-        return cast(memory, letter);
+    if names::several(to_in(packet.word)) {
+        return cast(memory, packet);
     }
-    fly(memory, card, letter)
+    fly(memory, card, packet)
 }

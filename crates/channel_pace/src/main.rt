@@ -3,7 +3,9 @@
 use channel::Received;
 use names::Body;
 use names::Card;
+use names::Letter;
 use names::Message;
+use names::Packet;
 use names::Register;
 use names::Task;
 
@@ -13,6 +15,13 @@ fn update(value: u32) -> Message {
         register: Register(1),
         body: Body::UpdateDo(2, value),
     }
+}
+
+fn packet(value: u32, to: u32) -> Packet {
+    names::letters::packet_of(Letter {
+        message: update(value),
+        to: to,
+    })
 }
 
 fn operand(body: Body) -> u32 {
@@ -50,12 +59,12 @@ fn add(x: u32, y: u32) -> u32 {
 
 // A broadcast from card 0 to cards 0, 1 and 2, which all eight take; then a single message from card 1 to card 2.
 fn round(memory: &mut [u32; 1364], i: u32, sum: u32) -> u32 {
-    channel::dispatch(memory, Card(0), update(i), 7);
+    channel::dispatch(memory, Card(0), packet(i, 7));
     take_all(memory);
     let a = value(channel::receive(memory, Card(0)));
     let b = value(channel::receive(memory, Card(1)));
     let c = value(channel::receive(memory, Card(2)));
-    channel::dispatch(memory, Card(1), update(i), 4);
+    channel::dispatch(memory, Card(1), packet(i, 4));
     channel::take_single(memory, Task(0));
     let d = value(channel::receive(memory, Card(2)));
     add(add(add(sum, a), add(b, c)), d)

@@ -2,9 +2,13 @@
 ghost use mathlib.Core.Path.{_≡_};
 ghost use Prim.Native.Nat.{_<_};
 ghost use lib.ListN.{getD};
+ghost use Rattle.channel.specs.Layout.{cardsOf, tasksOf, registersOf};
 ghost use Rattle.commands.specs.Decode.{byteOf, taskIn, cardIn, registerIn, chosenIn, functionIn, operandIn, restZero, decided, aloneNumber, pairNumber, readNumber, chosenNumber, updateNumber, decodeOf};
 ghost use Rattle.commands.specs.declared.Command.the-variants.{RequestRead, RequestUpdate, SendRead};
 use crate::Command;
+use channel::cards;
+use channel::registers;
+use channel::tasks;
 use names::Card;
 use names::Register;
 use names::Task;
@@ -48,20 +52,21 @@ fn decided(number: u8, command: Command) -> Command
     Command::Refused(number)
 }
 
-// 0, or the refusal of an argument that names in byte 0 alone one of so many: 11, then the number of what it names.
-fn alone_number(argument: [u8; 8], count: u32, number: u8) -> u8
-    ensures { λ r. ⌜ r ≡ aloneNumber argument count number ⌝ }
+// The command of an argument that names in byte 0 alone one of so many; else 11, then the number of what it names.
+fn alone(argument: [u8; 8], count: u32, number: u8, command: Command) -> Command
+    requires { ⌜ 0 < number ⌝ }
+    ensures { λ r. ⌜ r ≡ decided (aloneNumber argument count number) command ⌝ }
 {
     if byte(argument, 1) != 0 {
-        return 11;
+        return Command::Refused(11);
     }
     if !rest_zero(argument) {
-        return 11;
+        return Command::Refused(11);
     }
     if count <= byte(argument, 0) {
-        return number;
+        return Command::Refused(number);
     }
-    0
+    command
 }
 
 // A task and, in byte 1, one of so many.
@@ -144,40 +149,54 @@ fn card_in(argument: [u8; 8]) -> Card
     Card(byte(argument, 0))
 }
 
-// The command that a code and its argument are, or their refusal.
-pub fn decode(code: u8, argument: [u8; 8], cards: u32, registers: u32, tasks: u32) -> Command
-    ensures { λ r. ⌜ r ≡ decodeOf code argument cards registers tasks ⌝ }
+// The command that a code and its argument are to a store with this channel, or their refusal. Each reads the sizes that it needs, no other.
+pub fn decode(channel: &[u32; 1364], code: u8, argument: [u8; 8]) -> Command
+    ensures { λ r. ⌜ r ≡ decodeOf code argument (cardsOf (now (channel .entry))) (registersOf (now (channel .entry))) (tasksOf (now (channel .entry))) ⌝ }
 {
     match code {
-        1 => request_read(argument, registers, tasks),
-        2 => request_update(argument, registers, tasks),
-        3 => decided(
-            alone_number(argument, tasks, 12),
+        1 => request_read(argument, registers(channel), tasks(channel)),
+        2 => request_update(argument, registers(channel), tasks(channel)),
+        3 => alone(
+            argument,
+            tasks(channel),
+            12,
             Command::Perform(task_in(argument)),
         ),
-        4 => send_read(argument, cards, tasks),
-        5 => decided(
-            alone_number(argument, tasks, 12),
+        4 => send_read(argument, cards(channel), tasks(channel)),
+        5 => alone(
+            argument,
+            tasks(channel),
+            12,
             Command::SendUpdate(task_in(argument)),
         ),
-        6 => decided(
-            alone_number(argument, cards, 14),
+        6 => alone(
+            argument,
+            cards(channel),
+            14,
             Command::Dispatch(card_in(argument)),
         ),
-        7 => decided(
-            alone_number(argument, cards, 14),
+        7 => alone(
+            argument,
+            cards(channel),
+            14,
             Command::TakeBroadcast(card_in(argument)),
         ),
-        8 => decided(
-            alone_number(argument, tasks, 12),
+        8 => alone(
+            argument,
+            tasks(channel),
+            12,
             Command::TakeSingle(task_in(argument)),
         ),
-        9 => decided(
-            alone_number(argument, cards, 14),
+        9 => alone(
+            argument,
+            cards(channel),
+            14,
             Command::Deliver(card_in(argument)),
         ),
-        10 => decided(
-            alone_number(argument, tasks, 12),
+        10 => alone(
+            argument,
+            tasks(channel),
+            12,
             Command::Report(task_in(argument)),
         ),
         0 | 11..=255 => Command::Refused(10),

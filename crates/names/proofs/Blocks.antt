@@ -1,9 +1,12 @@
 -- A packet written is the packet read, and no other word changes; a letter whose fields have room is carried as it is.
-use Prim.Native.Nat.{ℕ, _+_, _*_, _/_, _%_, _<_, _≤_}
+use Prim.Native.Nat.{ℕ, zero, suc, _+_, _*_, _/_, _%_, _<_, _≤_}
 use mathlib.Core.Path.{_≡_, refl, ap₂, _∙_}
+use mathlib.Core.Bool.{cond, _||_}
 use mathlib.Core.Logic.{_≢_}
 use mathlib.Core.List.{List}
 use native.Mathlib.Omega.{arith}
+use borrow.Author.Tests.{lt-ltb, ne-eqb}
+use lib.Dec.{eqb, ltb}
 use lib.ListN.{length, getD, set, length-set}
 use lib.Seq.{getD-set-same, getD-set-other}
 use Rattle.names.specs.declared.Letter.{Letter}
@@ -28,6 +31,34 @@ kind-some ReadDo = (omega arith, omega arith)
 kind-some (UpdateDo f v) = (omega arith, omega arith)
 kind-some (ReadReply v) = (omega arith, omega arith)
 kind-some UpdateReply = (omega arith, omega arith)
+
+-- what a body has of the kind, function and value that it is read from
+abbrev Kept : ℕ → ℕ → ℕ → Type 0
+Kept k f v =
+    (kindOf (bodyOf k f v) ≡ cond (eqb k 0 || ltb 4 k) 4 k)
+    × (functionOf (bodyOf k f v) ≡ cond (eqb k 2) f 0)
+    × (valueOf (bodyOf k f v) ≡ cond (eqb k 2 || eqb k 3) v 0)
+
+kept-past : (k f v : ℕ) → 4 < k → Kept k f v
+unfolding bodyOf kindOf functionOf valueOf
+kept-past k f v h =
+    rw (
+      ne-eqb k 0 (λ e. omega arith),
+      ne-eqb k 1 (λ e. omega arith),
+      ne-eqb k 2 (λ e. omega arith),
+      ne-eqb k 3 (λ e. omega arith),
+      lt-ltb 4 k h,
+    )
+    (refl, refl, refl)
+
+pub kept : (k f v : ℕ) → Kept k f v
+unfolding bodyOf kindOf functionOf valueOf
+kept zero f v = (refl, refl, refl)
+kept (suc zero) f v = (refl, refl, refl)
+kept (suc (suc zero)) f v = (refl, refl, refl)
+kept (suc (suc (suc zero))) f v = (refl, refl, refl)
+kept (suc (suc (suc (suc zero)))) f v = (refl, refl, refl)
+kept (suc (suc (suc (suc (suc k))))) f v = kept-past (suc (suc (suc (suc (suc k))))) f v (omega arith)
 
 -- the fields of a word made of fields
 module _ (k t x f to : ℕ) where

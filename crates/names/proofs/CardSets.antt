@@ -7,9 +7,10 @@ use native.Mathlib.Omega.{arith}
 use borrow.Author.Tests.{ne-eqb, eqb-true, lt-ltb, le-ltb}
 use lib.Bits.{bitAnd}
 use lib.Dec.{eqb, ltb}
+use lib.Pow.{field, mod-mod-pow}
 use Rattle.lists.specs.Every.{each, each-at}
-use Rattle.lists.specs.Loops.{total, turns}
-use Rattle.names.specs.CardSet.{memberOf, sizeOf, single, several, soleOf}
+use Rattle.lists.specs.Loops.{total, turns, total-cong}
+use Rattle.names.specs.CardSet.{bitOf, memberOf, sizeOf, single, several, soleOf}
 use Rattle.names.specs.CardSetMeaning.{CardSetsComputed}
 
 -- a set that has not several cards has one
@@ -42,38 +43,21 @@ one-shifted k h = eqb-true _ _ (each-at 32 shifts all-shift k h)
 -- ---- one card only, told by taking one from the number
 
 -- only the cards 0 to 7 count: each bit below 2^8
+bit-low : (set k : ℕ) → k < 8 → bitOf (set % 256) k ≡ bitOf set k
+bit-low set k h =
+    let e : 8 ≡ 7 - k + 1 + k = omega arith in
+    ap (λ n. set % 2 ^ n / 2 ^ k % 2) e
+    ∙ ap (λ x. x % 2) (field set (7 - k + 1) k)
+    ∙ mod-mod-pow (set / 2 ^ k) (7 - k) 1
+
 module _ (set : ℕ) where
-  bit-0 : set % 256 / (2 ^ 0) % 2 ≡ set / (2 ^ 0) % 2
-  bit-0 = omega arith
-
-  bit-1 : set % 256 / (2 ^ 1) % 2 ≡ set / (2 ^ 1) % 2
-  bit-1 = omega arith
-
-  bit-2 : set % 256 / (2 ^ 2) % 2 ≡ set / (2 ^ 2) % 2
-  bit-2 = omega arith
-
-  bit-3 : set % 256 / (2 ^ 3) % 2 ≡ set / (2 ^ 3) % 2
-  bit-3 = omega arith
-
-  bit-4 : set % 256 / (2 ^ 4) % 2 ≡ set / (2 ^ 4) % 2
-  bit-4 = omega arith
-
-  bit-5 : set % 256 / (2 ^ 5) % 2 ≡ set / (2 ^ 5) % 2
-  bit-5 = omega arith
-
-  bit-6 : set % 256 / (2 ^ 6) % 2 ≡ set / (2 ^ 6) % 2
-  bit-6 = omega arith
-
-  bit-7 : set % 256 / (2 ^ 7) % 2 ≡ set / (2 ^ 7) % 2
-  bit-7 = omega arith
-
   pub single-low : single (set % 256) ≡ single set
-  unfolding single sizeOf total turns
-  single-low = rw (bit-0, bit-1, bit-2, bit-3, bit-4, bit-5, bit-6, bit-7)
+  unfolding single sizeOf
+  single-low = ap (λ n. eqb n 1) (total-cong (bitOf (set % 256)) (bitOf set) 8 (bit-low set))
 
   pub sole-low : soleOf (set % 256) ≡ soleOf set
-  unfolding soleOf total turns
-  sole-low = rw (bit-0, bit-1, bit-2, bit-3, bit-4, bit-5, bit-6, bit-7)
+  unfolding soleOf
+  sole-low = total-cong (λ k. k * bitOf (set % 256) k) (λ k. k * bitOf set k) 8 (λ k h. ap (λ b. k * b) (bit-low set k h))
 
 -- tried on each set of the cards 0 to 7
 agrees : ℕ → Bool
@@ -99,23 +83,19 @@ single-bits x h n = go (eqb (bitAnd x (x - 1)) 0) (single x) (rw (ne-eqb x 0 n) 
 
 -- ---- the only card, told by halving, for each of those sets
 
-halved : ℕ → ℕ
-halved x = x / 2 - x / 8
-
 halves : ℕ → Bool
-halves x = cond (single x) (eqb (soleOf x) (cond (ltb x 16) (halved x) (4 + x / 16 / 2 - x / 16 / 8))) true
+halves x = cond (single x) (eqb (soleOf x) (cond (ltb x 16) (x / 2 - x / 8) (4 + x / 16 / 2 - x / 16 / 8))) true
 
 all-halve : each 256 halves ≡ true
-unfolding each halves halved single sizeOf soleOf total turns
+unfolding each halves single sizeOf soleOf total turns
 all-halve = refl
 
 module _ (x : ℕ) (h : x < 256) (one : single x ≡ true) where
-  sole-halved : soleOf x ≡ cond (ltb x 16) (halved x) (4 + x / 16 / 2 - x / 16 / 8)
+  sole-halved : soleOf x ≡ cond (ltb x 16) (x / 2 - x / 8) (4 + x / 16 / 2 - x / 16 / 8)
   unfolding halves
   sole-halved = eqb-true _ _ (rw one at (each-at 256 halves all-halve x h))
 
   pub sole-few : x < 16 → soleOf x ≡ x / 2 - x / 8
-  unfolding halved
   sole-few l = rw (lt-ltb x 16 l) at sole-halved
 
   pub sole-more : 16 ≤ x → soleOf x ≡ 4 + x / 16 / 2 - x / 16 / 8

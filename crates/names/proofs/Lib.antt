@@ -2,6 +2,7 @@ pub mod Blocks
 pub mod CardSets
 pub mod KnownFunctions
 pub mod LettersMeaning
+pub mod Picks
 pub mod PlacementLaws
 pub mod Raised
 pub mod Rings

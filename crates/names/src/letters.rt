@@ -1,6 +1,8 @@
 // Letters in packets of two words: a word with kind, task, register, function and destinations, and the operand or value.
 ghost use mathlib.Core.Path.{_≡_};
-ghost use Rattle.names.specs.Letters.{bodyOf, kindOf, functionOf, valueOf, known, functionFits, kindIn, taskIn, registerIn, functionIn, toIn, wordOf, letterOf, packetOf};
+ghost use mathlib.Core.Bool.{cond, _||_};
+ghost use lib.Dec.{eqb, ltb};
+ghost use Rattle.names.specs.Letters.{bodyOf, kindOf, functionOf, valueOf, functionFits, kindIn, taskIn, registerIn, functionIn, toIn, wordOf, letterOf, packetOf};
 use crate::Body;
 use crate::Letter;
 use crate::Message;
@@ -8,6 +10,7 @@ use crate::Packet;
 use crate::Register;
 use crate::Task;
 use crate::known_function;
+use crate::picked;
 
 // The body that a packet's kind, function and value give.
 pub fn body_of(kind: u32, function: u32, value: u32) -> Body
@@ -58,18 +61,6 @@ pub fn value_of(body: Body) -> u32
         Body::UpdateDo(_, v) => v,
         Body::ReadReply(v) => v,
         Body::UpdateReply => 0,
-    }
-}
-
-// Whether the function of an update is known.
-pub fn known(body: Body) -> bool
-    ensures { λ r. ⌜ r ≡ known body ⌝ }
-{
-    match body {
-        Body::ReadDo => true,
-        Body::UpdateDo(f, _) => known_function(f),
-        Body::ReadReply(_) => true,
-        Body::UpdateReply => true,
     }
 }
 
@@ -151,5 +142,35 @@ pub fn packet_of(letter: Letter) -> Packet
     Packet {
         word: word,
         value: value_of(body),
+    }
+}
+
+// The kind of the body that a packet of this kind carries: 0 and above 4 are read as 4.
+fn kind_read(kind: u32) -> u32
+    ensures { λ r. ⌜ r ≡ cond (eqb kind 0 || ltb 4 kind) 4 kind ⌝ }
+{
+    if (kind == 0) | (4 < kind) {
+        return 4;
+    }
+    kind
+}
+
+// The packet of the letter that a packet carries: what its kind does not use is 0.
+pub fn repacked(packet: Packet) -> Packet
+    ensures { λ r. ⌜ r ≡ packetOf (letterOf packet) ⌝ }
+{
+    let word = packet.word;
+    let kind = kind_in(word);
+    let update = kind == 2;
+    let fields = word_of(
+        kind_read(kind),
+        task_in(word),
+        register_in(word),
+        picked(update, function_in(word)),
+        to_in(word),
+    );
+    Packet {
+        word: fields,
+        value: picked(update | (kind == 3), packet.value),
     }
 }

@@ -109,7 +109,7 @@ pub fn sole(set: u32) -> Card
     Card(4 + high / 2 - high / 8)
 }
 
-// Function 2: an add that stays at the largest value once there. A tally counts so too.
+// An add that stays at the largest value once there, as function 2 is: so a tally counts.
 pub fn raise(value: u32, operand: u32) -> u32
     ensures { λ r. ⌜ r ≡ raised value operand ⌝ }
 {
@@ -143,16 +143,26 @@ pub fn known_function(function: u32) -> bool
     (1 <= function) & (function <= 5)
 }
 
-// What an update makes of a value. An unknown function leaves it.
+// A value where a test holds, else 0.
+pub fn picked(holds: bool, value: u32) -> u32
+    ensures { λ r. ⌜ r ≡ cond holds value 0 ⌝ }
+{
+    if holds {
+        return value;
+    }
+    0
+}
+
+// What an update makes of a value. An unknown function leaves it. All results are worked out and one is picked, with no jump by the function,
+// which no processor foresees.
 pub fn update(function: u32, operand: u32, value: u32) -> u32
     ensures { λ r. ⌜ r ≡ updated function operand value ⌝ }
 {
-    match function {
-        1 => operand,
-        2 => raise(value, operand),
-        3 => larger(value, operand),
-        4 => value | operand,
-        5 => sum(value, operand),
-        _ => value,
-    }
+    let all = sum(value, operand);
+    picked(function == 1, operand)
+        | picked((function == 2) | (function == 5), all)
+        | picked((function == 2) & (all < value), 4294967295)
+        | picked(function == 3, larger(value, operand))
+        | picked(function == 4, value | operand)
+        | picked(!known_function(function), value)
 }

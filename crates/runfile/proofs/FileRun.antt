@@ -8,7 +8,6 @@ use native.Mathlib.Omega.{arith}
 use borrow.Author.Tests.{eq-eqb, ne-eqb, eqb-true}
 use lib.Dec.{eqb, ltb}
 use lib.ListN.{length, drop, length-append, length-map}
-use Rattle.lists.specs.Counting.{filter-split}
 use Rattle.lists.specs.Histories.{In}
 use Rattle.names.specs.declared.Answer.{Answer}
 use Rattle.claims.specs.Published.{begin}
@@ -20,10 +19,10 @@ use Rattle.store.proofs.StartLaw.{start-stands}
 use Rattle.store.proofs.Demand3.{answers-same, store-demand-3}
 use Rattle.runfile.specs.RunFile.{stepsIn, placementIn, runFileIn, fileRefusal, joined}
 use Rattle.runfile.specs.AnswerFile.{fourBytes, answerBytes, answered}
-use Rattle.tally.specs.Tally.{isTaken}
-use Rattle.runfile.specs.Run.{fileRegisters, fileChannel, answersIn, isRefused, answerOf, answerRefusal, answerOutput, takenOf, refusedOf}
+use Rattle.runfile.specs.Run.{fileRegisters, fileChannel, answersIn, answerOf, answerRefusal, answerOutput, takenOf, refusedOf}
 use Rattle.runfile.specs.FileRun.{FileRun}
 use Rattle.runfile.proofs.RunFileLaws.{accepted-placement, accepted-most, accepted-steps}
+use Rattle.runfile.proofs.StepwiseLaws.{each-counted}
 use Rattle.runfile.proofs.AnswersFrom.{one-each, no-six}
 use Rattle.runfile.proofs.LongFile.{long-file}
 
@@ -66,8 +65,7 @@ module _ (file : List ℕ) (ok : fileRefusal file ≡ 0) where
   answer-length = ap length accepted-answer ∙ bytes-length (answersIn file) ∙ ap (λ n. 2 + 5 * n) answers-count
 
   all-counted : takenOf (answersIn file) + refusedOf (answersIn file) ≡ stepsIn file
-  unfolding isTaken isRefused
-  all-counted = sym (filter-split (λ a. isTaken (a .result)) (answersIn file)) ∙ answers-count
+  all-counted = each-counted (answersIn file) ∙ answers-count
 
   store-answers : (m : Store) → answersIn file ≡ answersOf (started (placementIn file) m) (runFileIn file .steps)
   unfolding answersIn

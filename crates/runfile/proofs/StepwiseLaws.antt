@@ -3,9 +3,11 @@ use Prim.Native.Nat.{ℕ, zero, suc, _+_}
 use mathlib.Core.Path.{_≡_, sym, ap, ap₂, _∙_}
 use mathlib.Core.Bool.{cond}
 use mathlib.Core.List.{List, _∷_}
+use lib.ListN.{length}
 use Rattle.lists.specs.Loops.{turns-zero, turns-suc, turns-more, total}
-use Rattle.lists.specs.Listings.{listing, listing-zero, listing-cons, listing-cong}
+use Rattle.lists.specs.Listings.{listing, listing-zero, listing-cons, listing-cong, listing-length}
 use Rattle.lists.specs.Counts.{filter-listing}
+use Rattle.lists.specs.Counting.{filter-split}
 use Rattle.names.specs.Step.{RawStep}
 use Rattle.names.specs.declared.Answer.{Answer}
 use Rattle.store.specs.Step.{advanced}
@@ -61,3 +63,12 @@ taken-counted answer n = sym (filter-listing (λ a. isTaken (a .result)) answer 
 
 pub refused-counted : (answer : ℕ → Answer) (n : ℕ) → total (λ j. cond (isRefused (answer j .result)) 1 0) n ≡ refusedOf (listing answer n)
 refused-counted answer n = sym (filter-listing (λ a. isRefused (a .result)) answer n)
+
+-- each answer is counted once, as taken or as refused
+pub each-counted : (answers : List Answer) → takenOf answers + refusedOf answers ≡ length answers
+unfolding isRefused
+each-counted answers = sym (filter-split (λ a. isTaken (a .result)) answers)
+
+pub both-counted : (answer : ℕ → Answer) (n : ℕ)
+    → total (λ j. cond (isTaken (answer j .result)) 1 0) n + total (λ j. cond (isRefused (answer j .result)) 1 0) n ≡ n
+both-counted answer n = ap₂ _+_ (taken-counted answer n) (refused-counted answer n) ∙ each-counted (listing answer n) ∙ listing-length answer n

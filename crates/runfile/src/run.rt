@@ -8,7 +8,7 @@ ghost use Rattle.runfile.specs.RunFile.{stepsIn, codesAt, argumentsAt, f
 ghost use Rattle.runfile.specs.AnswerFile.{headed, putAnswer, putAnswers};
 ghost use Rattle.runfile.specs.Stepwise.{stored, answerAt, counted};
 ghost use Rattle.tally.specs.Tally.{isTaken};
-ghost use Rattle.runfile.specs.Run.{fileRegisters, fileChannel, isRefused, answerOf, answerOutput, answeredOf};
+ghost use Rattle.runfile.specs.Run.{fileRegisters, fileChannel, answerOf, answerOutput, answeredOf};
 ghost use Rattle.tables.specs.Start.{startRegisters, startChannel};
 ghost use Rattle.store.specs.Step.{advanced};
 use super::answer_file::put_answer;
@@ -88,12 +88,6 @@ fn is_taken(result: u8) -> bool
     result == 0
 }
 
-fn is_refused(result: u8) -> bool
-    ensures { λ r. ⌜ r ≡ isRefused result ⌝ }
-{
-    result != 0
-}
-
 fn one_if(b: bool) -> u32
     ensures { λ r. ⌜ (r ≡ cond b 1 0) × (r ≤ 1) ⌝ }
 {
@@ -141,17 +135,17 @@ fn go(
 {
     let codes = codes_at(file);
     let arguments = arguments_at(file);
-    let n = wide(steps(file));
+    let steps = steps(file);
+    let n = wide(steps);
     put_count(out, n);
     let mut taken: u32 = 0;
-    let mut refused: u32 = 0;
     let mut k: usize = 0;
     while k < n {
         let result = turn(file, out, registers, channel, codes, arguments, n, k);
         taken += one_if(is_taken(result));
-        refused += one_if(is_refused(result));
         k += 1;
     }
+    let refused = steps - taken;
     Answered {
         refusal: 0,
         taken: taken,

@@ -31,7 +31,7 @@ use Rattle.claims.specs.Published as Pub
 use Rattle.tables.specs.declared.Doing.{Doing}
 use Rattle.tables.specs.declared.Doing.the-variants.{Quiet, AskingRead, AskingUpdate, Waiting, DoneRead, DoneUpdate}
 use Rattle.tables.specs.Doings.{doingAt}
-use Rattle.tables.specs.Outbox.{outHeadOf, outCountOf, outPlace, firstOut, unposted}
+use Rattle.tables.specs.Outbox.{outHeadOf, outCountOf, outPlace, firstPacket, firstOut, unposted}
 use Rattle.store.specs.Traffic.{dispatchNumber, dispatchRegisters, dispatchChannel}
 use Rattle.tables.specs.Sized.{doingFits, outFits}
 use Rattle.store.specs.Step.{outcome}
@@ -146,7 +146,7 @@ module _ (rs cs : List ℕ) (P : Placement) (s : Published) (z : Ready rs cs P s
 
     -- which fits
     head-goes : (n : ℕ) → outCountOf rs (i .0) ≡ suc n → fits cs (firstOut rs (i .0)) ≡ true
-    unfolding outFits firstOut
+    unfolding outFits firstPacket
     head-goes n e =
         let m : (outHeadOf rs (i .0) % 16 + 0) % 16 ≡ outHeadOf rs (i .0) % 16 = omega arith in
         rw m at (packet-letter cs (packetAt rs (outPlace rs (i .0) 0)) (z .fit .out (i .0) 0 card (omega arith)))

@@ -1,9 +1,10 @@
 // Steps 1, 2 and 10: a task asks, and a done task reports.
 ghost use mathlib.Core.Path.{_≡_};
-ghost use Rattle.store.specs.Requests.{bare, isQuiet, requestNumber, requestWords, reportOf, reportAnswer, reportWords};
+ghost use Rattle.store.specs.Requests.{bare, requestNumber, requestWords, reportOf, reportAnswer, reportWords};
 use names::Answer;
 use names::Task;
 use tables::Doing;
+use tables::doings::kind_of;
 use tables::doings::load;
 use tables::doings::store;
 use tables::layout::REQUESTS;
@@ -18,25 +19,12 @@ pub(crate) fn bare(number: u8) -> Answer
     }
 }
 
-fn quiet(doing: Doing) -> bool
-    ensures { λ r. ⌜ r ≡ isQuiet doing ⌝ }
-{
-    match doing {
-        Doing::Quiet => true,
-        Doing::AskingRead(_) => false,
-        Doing::AskingUpdate(_, _, _) => false,
-        Doing::Waiting => false,
-        Doing::DoneRead(_) => false,
-        Doing::DoneUpdate => false,
-    }
-}
-
 // Steps 1 and 2: the quiet task now asks.
 pub(crate) fn request(registers: &mut [u32; 593], task: Task, doing: Doing) -> u8
     ensures registers { λ _. ⌜ now (registers .exit) ≡ requestWords (now (registers .entry)) (task .0) doing ⌝ }
     ensures number { λ r. ⌜ r ≡ requestNumber (now (registers .entry)) (task .0) ⌝ }
 {
-    if !quiet(load(registers, task)) {
+    if kind_of(load(registers, task)) != 0 {
         return 20;
     }
     let n = registers[REQUESTS];

@@ -1,8 +1,7 @@
 // Step 9: the head of a card's inbox is delivered.
 ghost use mathlib.Core.Path.{_≡_};
 ghost use Rattle.names.specs.declared.Body.the-variants.{ReadDo, UpdateDo};
-ghost use Rattle.tables.specs.Doings.{doingStored};
-ghost use Rattle.store.specs.Deliver.{replied, isPrimary, repliesHere, applied, bodyNumber, bodyWords, messageNumber, messageWords, foundNumber, foundWords, deliverNumber, deliverRegisters, deliverChannel};
+ghost use Rattle.store.specs.Deliver.{replied, repliesHere, applied, bodyNumber, bodyWords, messageNumber, messageWords, foundNumber, foundWords, deliverNumber, deliverRegisters, deliverChannel};
 use super::perform::update_copy;
 use super::send::letter_for;
 use channel::Received;
@@ -12,6 +11,7 @@ use names::Message;
 use names::Register;
 use names::Task;
 use tables::Doing;
+use tables::doings::end_update;
 use tables::doings::store;
 use tables::layout::copy;
 use tables::layout::holds;
@@ -30,21 +30,12 @@ fn reply(registers: &mut [u32; 593], card: Card, task: Task, register: Register,
     post(registers, card, letter);
 }
 
-// Whether a card is the primary.
-fn is_primary(card: Card, primary: Card) -> bool
-    ensures { λ r. ⌜ r ≡ isPrimary (card .0) (primary .0) ⌝ }
-{
-    card.0 == primary.0
-}
-
-// Whether a card owes the reply to an update.
+// Whether a card owes the reply to an update. Both tests are made: which of them fails is not foreseen.
 fn replies(registers: &[u32; 593], card: Card, task: Task, register: Register) -> bool
     ensures { λ r. ⌜ r ≡ repliesHere (now (registers .entry)) (card .0) (task .0) (register .0) ⌝ }
 {
-    if !is_primary(card, primary(registers, register)) {
-        return false;
-    }
-    !holds(registers, register, home(registers, task))
+    let here = card.0 == primary(registers, register).0;
+    here & !holds(registers, register, home(registers, task))
 }
 
 // An update is applied on a card; if the task's home is here, it is done.
@@ -60,10 +51,7 @@ fn apply(
 {
     let here = home(registers, task);
     update_copy(registers, card, register, function, operand);
-    if card.0 == here.0 {
-        store(registers, task, Doing::DoneUpdate);
-        return;
-    }
+    end_update(registers, task, card.0 == here.0);
 }
 
 // A read: a reply with the value.
@@ -103,15 +91,6 @@ fn deliver_update(
     0
 }
 
-// A reply: the task is done.
-fn deliver_reply(registers: &mut [u32; 593], task: Task, doing: Doing) -> u8
-    ensures registers { λ _. ⌜ now (registers .exit) ≡ doingStored (now (registers .entry)) (task .0) doing ⌝ }
-    ensures number { λ r. ⌜ r ≡ 0 ⌝ }
-{
-    store(registers, task, doing);
-    0
-}
-
 // A message's body takes effect on a card.
 fn deliver_body(
     registers: &mut [u32; 593],
@@ -126,8 +105,14 @@ fn deliver_body(
     match body {
         Body::ReadDo => deliver_read(registers, card, task, register),
         Body::UpdateDo(f, w) => deliver_update(registers, card, task, register, f, w),
-        Body::ReadReply(v) => deliver_reply(registers, task, Doing::DoneRead(v)),
-        Body::UpdateReply => deliver_reply(registers, task, Doing::DoneUpdate),
+        Body::ReadReply(v) => {
+            store(registers, task, Doing::DoneRead(v));
+            0
+        }
+        Body::UpdateReply => {
+            store(registers, task, Doing::DoneUpdate);
+            0
+        }
     }
 }
 

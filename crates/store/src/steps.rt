@@ -52,10 +52,7 @@ pub fn advance(
     ensures channel { λ _. ⌜ now (channel .exit) ≡ advanced (now (registers .entry)) (now (channel .entry)) code argument .channel ⌝ }
     ensures answer { λ r. ⌜ r ≡ advanced (now (registers .entry)) (now (channel .entry)) code argument .answer ⌝ }
 {
-    let cards = channel::cards(channel);
-    let count = channel::registers(channel);
-    let tasks = channel::tasks(channel);
-    let command = decode(code, argument, cards, count, tasks);
+    let command = decode(channel, code, argument);
     take(registers, channel, command)
 }
 

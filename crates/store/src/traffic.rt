@@ -1,9 +1,10 @@
 // Steps 6, 7 and 8, which are the channel's but for the outbox.
 ghost use mathlib.Core.Path.{_≡_};
+ghost use Rattle.names.specs.Letters.{letterOf};
 ghost use Rattle.channel.specs.Answers.{answerNumber};
 ghost use Rattle.store.specs.Traffic.{handedAnswer, handedMemory, dispatchNumber, dispatchRegisters, dispatchChannel};
 use names::Card;
-use names::Letter;
+use names::Packet;
 use tables::outbox::count;
 use tables::outbox::first;
 use tables::outbox::unpost;
@@ -25,13 +26,12 @@ pub(crate) fn number_of(answer: channel::Answer) -> u8
     }
 }
 
-// A card's letter is handed to the channel.
-fn hand_over(channel: &mut [u32; 1364], card: Card, letter: Letter) -> channel::Answer
-    ensures channel { λ _. ⌜ now (channel .exit) ≡ handedMemory (now (channel .entry)) card letter ⌝ }
-    ensures answer { λ r. ⌜ r ≡ handedAnswer (now (channel .entry)) card letter ⌝ }
+// A card's letter is handed to the channel, in its packet.
+fn hand_over(channel: &mut [u32; 1364], card: Card, packet: Packet) -> channel::Answer
+    ensures channel { λ _. ⌜ now (channel .exit) ≡ handedMemory (now (channel .entry)) card (letterOf packet) ⌝ }
+    ensures answer { λ r. ⌜ r ≡ handedAnswer (now (channel .entry)) card (letterOf packet) ⌝ }
 {
-    let message = letter.message;
-    channel::dispatch(channel, card, message, letter.to)
+    channel::dispatch(channel, card, packet)
 }
 
 // Step 6: the head of a card's outbox goes to the channel.
@@ -43,8 +43,8 @@ pub(crate) fn dispatch(registers: &mut [u32; 593], channel: &mut [u32; 1364], ca
     if count(registers, card) == 0 {
         return 30;
     }
-    let letter = first(registers, card);
-    let number = number_of(hand_over(channel, card, letter));
+    let packet = first(registers, card);
+    let number = number_of(hand_over(channel, card, packet));
     if number == 0 {
         unpost(registers, card);
         return number;

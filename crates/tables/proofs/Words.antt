@@ -18,7 +18,7 @@ use Rattle.tables.specs.declared.Doing.{Doing}
 use Rattle.tables.specs.declared.Doing.the-variants.{Quiet, AskingRead, AskingUpdate, Waiting, DoneRead, DoneUpdate}
 use Rattle.tables.specs.Layout.{taskWord, valueWord, homeIn, homeOf, outHeadWord, outCountWord, outBlock}
 use Rattle.tables.specs.Doings.{doingOf, doingKind, doingRegister, doingFunction, doingValue, doingKindIn, askedIn, doingFunctionIn, taskWordOf, DoingPacks, doingIn, doingAt, doingStored}
-use Rattle.tables.specs.Outbox.{outHeadOf, outCountOf, outPlace, roomy, posted, firstOut, unposted}
+use Rattle.tables.specs.Outbox.{outHeadOf, outCountOf, outPlace, roomy, posted, firstPacket, firstOut, unposted}
 use Rattle.tables.specs.Shows.{plain, outboxOf}
 
 -- ---- what a task is doing
@@ -189,7 +189,7 @@ module _ (ws : List ℕ) (i : ℕ) (long : length ws ≡ 593) (n : ℕ) (some-in
 
   -- the head leaves
   pub unpost-drops : outboxOf ws i ≡ plain (firstOut ws i) ∷ outboxOf (unposted ws i) i
-  unfolding outboxOf firstOut
+  unfolding outboxOf firstPacket
   unpost-drops =
       let m : (outHeadOf ws i % 16 + 0) % 16 ≡ outHeadOf ws i % 16 = omega arith in
       rw (unposted-count, some-in, listing-cons, m)

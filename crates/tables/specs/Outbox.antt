@@ -6,7 +6,8 @@ use lib.Dec.{eqb, ltb}
 use lib.ListN.{getD, set}
 use Rattle.names.specs.declared.Body.{Body}
 use Rattle.names.specs.declared.Letter.{Letter}
-use Rattle.names.specs.Letters.{packetOf, letterAt}
+use Rattle.names.specs.declared.Packet.{Packet}
+use Rattle.names.specs.Letters.{letterOf, packetOf, packetAt}
 use Rattle.names.specs.Rings.{joined, headGone}
 use Rattle.tables.specs.Layout.{outHeadWord, outCountWord, outBlock}
 
@@ -30,9 +31,12 @@ roomy ws i = ltb (outCountOf ws i) 16
 unfoldable pub posted : List ℕ → ℕ → Letter → List ℕ
 posted ws i l = joined ws (outCountWord i) (outPlace ws i (outCountOf ws i)) 16 (packetOf l)
 
--- the first letter of card i's outbox
-unfoldable pub firstOut : List ℕ → ℕ → Letter
-firstOut ws i = letterAt ws (outBlock i (outHeadOf ws i))
+-- the first packet of card i's outbox, and its letter
+unfoldable pub firstPacket : List ℕ → ℕ → Packet
+firstPacket ws i = packetAt ws (outBlock i (outHeadOf ws i))
+
+abbrev pub firstOut : List ℕ → ℕ → Letter
+firstOut ws i = letterOf (firstPacket ws i)
 
 -- the first letter of card i's outbox gone
 unfoldable pub unposted : List ℕ → ℕ → List ℕ

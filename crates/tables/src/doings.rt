@@ -1,6 +1,8 @@
 // What a task is doing, in two words: one with kind, register and function, below the task's home, and the value.
 ghost use mathlib.Core.Path.{_≡_};
 ghost use Prim.Native.Nat.{_<_};
+ghost use mathlib.Core.Bool.{cond};
+ghost use Rattle.tables.specs.declared.Doing.the-variants.{DoneUpdate};
 ghost use Rattle.tables.specs.Doings.{doingOf, doingKind, doingRegister, doingFunction, doingValue, doingAt, taskWordOf, doingStored};
 use super::layout::TASK;
 use super::layout::home_in;
@@ -9,6 +11,7 @@ use crate::Doing;
 use names::Card;
 use names::Register;
 use names::Task;
+use names::picked;
 
 fn doing_of(kind: u32, register: Register, function: u32, value: u32) -> Doing
     ensures { λ r. ⌜ r ≡ doingOf kind register function value ⌝ }
@@ -114,4 +117,16 @@ pub fn store(registers: &mut [u32; 593], task: Task, doing: Doing)
     let home = home_in(registers[at]);
     registers[at] = word_of(home, doing);
     registers[at + 1] = value_of(doing);
+}
+
+// The task's update is done where a test holds. Its words are written either way: the test is not foreseen, and a jump that goes wrong costs more.
+pub fn end_update(registers: &mut [u32; 593], task: Task, done: bool)
+    ensures { λ _. ⌜ now (registers .exit) ≡ cond done (doingStored (now (registers .entry)) (task .0) DoneUpdate) (now (registers .entry)) ⌝ }
+{
+    let at = TASK + task_place(task) * 2;
+    let word = registers[at];
+    let value = registers[at + 1];
+    let ended = word_of(home_in(word), Doing::DoneUpdate);
+    registers[at] = picked(done, ended) | picked(!done, word);
+    registers[at + 1] = picked(!done, value);
 }

@@ -2,7 +2,7 @@
 ghost use mathlib.Core.Path.{_≡_};
 ghost use Prim.Native.Nat.{_<_};
 ghost use Rattle.names.specs.Letters.{packetAt, stored};
-ghost use Rattle.tables.specs.Outbox.{outCountOf, roomy, posted, firstOut, unposted};
+ghost use Rattle.tables.specs.Outbox.{outCountOf, roomy, posted, firstPacket, unposted};
 use super::layout::OUT;
 use super::layout::OUTBOX;
 use super::layout::card_place;
@@ -60,14 +60,13 @@ pub fn post(registers: &mut [u32; 593], card: Card, letter: Letter)
     registers[at + 1] = count + 1;
 }
 
-// The first letter of a card's outbox.
-pub fn first(registers: &[u32; 593], card: Card) -> Letter
-    ensures { λ r. ⌜ r ≡ firstOut (now (registers .entry)) (card .0) ⌝ }
+// The first packet of a card's outbox.
+pub fn first(registers: &[u32; 593], card: Card) -> Packet
+    ensures { λ r. ⌜ r ≡ firstPacket (now (registers .entry)) (card .0) ⌝ }
 {
     let i = card_place(card);
     let head = registers[OUTBOX + i * 34];
-    let packet = load(registers, OUT + i * 34 + (head % 16) as usize * 2);
-    names::letters::letter_of(packet)
+    load(registers, OUT + i * 34 + (head % 16) as usize * 2)
 }
 
 // The first letter of a card's outbox leaves it.

@@ -1,52 +1,61 @@
-use Rattle.lists.specs.Tests.{cases}
-use Rattle.names.specs.Update.{updated}
+use Rattle.names.proofs.Picks.{picks-updated}
 use borrow.Author.Needs.{needs}
 use Rattle.names.proofs.update.Statement.{statement}
 use Rattle.names.proofs.update.Tie as tie
 
-raise-requires : tie.Need-raise-requires
-raise-requires c κs = search needs
+sum-requires : tie.Need-sum-requires
+sum-requires c κs = search needs
+
+picked-requires : tie.Need-picked-requires
+picked-requires c κs = search needs
+
+picked-requires-2 : tie.Need-picked-requires-2
+picked-requires-2 c κs = search needs
+
+picked-requires-3 : tie.Need-picked-requires-3
+picked-requires-3 c κs = search needs
 
 larger-requires : tie.Need-larger-requires
 larger-requires c κs = search needs
 
-sum-requires : tie.Need-sum-requires
-sum-requires c κs = search needs
+picked-requires-4 : tie.Need-picked-requires-4
+picked-requires-4 c κs = search needs
+
+picked-requires-5 : tie.Need-picked-requires-5
+picked-requires-5 c κs = search needs
+
+known-function-requires : tie.Need-known-function-requires
+known-function-requires c κs = search needs
+
+picked-requires-6 : tie.Need-picked-requires-6
+picked-requires-6 c κs = search needs
 
 returns : tie.Need-returns
-unfolding updated
-returns c = search (needs, cases)
-
-returns-2 : tie.Need-returns-2
-unfolding updated
-returns-2 c = rw (c .before .match .keys2) (c .raise .ensures)
-
-returns-3 : tie.Need-returns-3
-unfolding updated
-returns-3 c = rw (c .before .match .keys3) (c .larger .ensures)
-
-returns-4 : tie.Need-returns-4
-unfolding updated
-returns-4 c = rw (c .match .keys4)
-
-returns-5 : tie.Need-returns-5
-unfolding updated
-returns-5 c = rw (c .before .match .keys5) (c .sum .ensures)
-
-returns-6 : tie.Need-returns-6
-unfolding updated
-returns-6 c = search (needs, cases)
+returns c =
+    rw (
+      c .picked6 .ensures,
+      c .before .known-function .ensures,
+      c .before .before .picked5 .ensures,
+      c .before .before .before .picked4 .ensures,
+      c .before .before .before .before .larger .ensures,
+      c .before .before .before .before .before .picked3 .ensures,
+      c .before .before .before .before .before .before .picked2 .ensures,
+      c .before .before .before .before .before .before .before .picked .ensures,
+      c .before .before .before .before .before .before .before .before .sum .ensures,
+    )
+    (picks-updated _ _ (search needs) (search needs) _)
 
 pub update-spec : {M : Type 1} → statement M
 update-spec =
     tie.close
     (tie.spec
-    raise-requires
-    larger-requires
     sum-requires
-    returns
-    returns-2
-    returns-3
-    returns-4
-    returns-5
-    returns-6)
+    picked-requires
+    picked-requires-2
+    picked-requires-3
+    larger-requires
+    picked-requires-4
+    picked-requires-5
+    known-function-requires
+    picked-requires-6
+    returns)

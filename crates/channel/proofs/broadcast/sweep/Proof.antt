@@ -1,5 +1,5 @@
-use mathlib.Core.Path.{sym, _∙_}
 use native.Mathlib.Omega.{arith}
+use borrow.Author.Tests.{eq-eqb, ne-eqb}
 use Rattle.channel.specs.TakeBroadcast.{sweptKept, sweptWords}
 use borrow.Author.Needs.{needs}
 use Rattle.channel.proofs.broadcast.sweep.Statement.{statement}
@@ -14,17 +14,14 @@ load-requires c κs = search needs
 tag-at-requires : tie.Need-tag-at-requires
 tag-at-requires c κs = search needs
 
-waits-requires : tie.Need-waits-requires
-waits-requires c κs = search needs
-
 push-requires : tie.Need-push-requires
 push-requires c κs = search needs
 
 returns : tie.Need-returns
 unfolding sweptKept sweptWords
-returns c = let b = c .before .before .before .before .before .before .before .before .held-block .ensures .0 in
-    let z = rw (c .before .before .before .before .tag-at .ensures, b) at (sym (c .before .before .before .waits .ensures) ∙ c .before .before .if1 .taken) in
-    let l = rw b at (c .before .before .before .before .before .before .load .ensures) in
+returns c = let h = c .before .before .before .before .before .before .before .before .before .held-block .ensures .0 in
+    let z = eq-eqb _ _ (rw (c .before .before .before .before .before .tag-at .ensures, h) at (c .before .before .if1 .taken)) in
+    let l = rw h at (c .before .before .before .before .before .before .before .load .ensures) in
     (simp z (simp l at (c .push .ensures)), (simp z, omega arith))
 
 held-block-requires-2 : tie.Need-held-block-requires-2
@@ -38,10 +35,10 @@ add-result c = search needs
 
 returns-2 : tie.Need-returns-2
 unfolding sweptKept sweptWords
-returns-2 c = let b = c .before .before .before .before .before .before .before .before .before .held-block .ensures .0 in
-    let m = rw b at (c .before .before .before .before .before .tag-at .ensures) in
-    let z = rw m at (sym (c .before .before .before .before .waits .ensures) ∙ c .before .before .before .if1 .left) in
-    let l = rw b at (c .before .before .before .before .before .before .before .load .ensures) in
+returns-2 c = let h = c .before .before .before .before .before .before .before .before .before .before .held-block .ensures .0 in
+    let m = rw h at (c .before .before .before .before .before .before .tag-at .ensures) in
+    let z = ne-eqb _ _ (rw m at (c .before .before .before .if1 .left)) in
+    let l = rw h at (c .before .before .before .before .before .before .before .before .load .ensures) in
     (simp z (simp (c .before .held-block2 .ensures .0, l, m) at (c .mark .ensures)), (simp z, omega arith))
 
 pub sweep-spec : {M : Type 1} → statement M
@@ -51,7 +48,6 @@ sweep-spec =
     held-block-requires
     load-requires
     tag-at-requires
-    waits-requires
     push-requires
     returns
     held-block-requires-2

@@ -1,3 +1,5 @@
+use native.Mathlib.Omega.{arith}
+use Rattle.names.proofs.CardSets.{one-shifted}
 use Rattle.channel.specs.Letters.{limitsOf}
 use borrow.Author.Needs.{needs}
 use Rattle.channel.proofs.layout.limits_of.Statement.{statement}
@@ -6,8 +8,8 @@ use Rattle.channel.proofs.layout.limits_of.Tie as tie
 cards-requires : tie.Need-cards-requires
 cards-requires c κs = search needs
 
-sets-requires : tie.Need-sets-requires
-sets-requires c κs = search needs
+shl-t3 : tie.Need-shl-t3
+shl-t3 c = search needs
 
 tasks-requires : tie.Need-tasks-requires
 tasks-requires c κs = search needs
@@ -17,8 +19,11 @@ registers-requires c κs = search needs
 
 returns : tie.Need-returns
 unfolding limitsOf
-returns c = simp (c .before .before .sets .ensures, c .before .before .before .cards .ensures .0, c .before .tasks .ensures .0, c .registers .ensures .0)
+returns c =
+    let n = c .before .before .cards .ensures .0 in
+    let s = rw n at (one-shifted (c .before .before .cards .result) (omega arith)) in
+    rw (n, s, c .before .tasks .ensures .0, c .registers .ensures .0)
 
 pub limits-of-spec : {M : Type 1} → statement M
 limits-of-spec =
-    tie.close (tie.spec cards-requires sets-requires tasks-requires registers-requires returns)
+    tie.close (tie.spec cards-requires shl-t3 tasks-requires registers-requires returns)

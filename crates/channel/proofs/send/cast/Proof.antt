@@ -34,8 +34,8 @@ add-t10 c = search needs
 broadcast-block-requires : tie.Need-broadcast-block-requires
 broadcast-block-requires c κs = search needs
 
-packet-of-requires : tie.Need-packet-of-requires
-packet-of-requires c κs = search needs
+repacked-requires : tie.Need-repacked-requires
+repacked-requires c κs = search needs
 
 store-requires : tie.Need-store-requires
 store-requires c κs = search needs
@@ -46,7 +46,7 @@ element-write-memory c = search needs
 returns-4 : tie.Need-returns-4
 unfolding castAnswer castMemory isDone
 returns-4 c = let z = sym (c .before .before .before .before .before .before .before .before .before .before .before .before .before .near .ensures) ∙ not-false _ (c .before .before .before .before .before .before .before .before .before .before .before .before .if1 .left) in let y = sym (c .before .before .before .before .before .before .before .before .before .before .fits2 .ensures) ∙ not-false _ (c .before .before .before .before .before .before .before .before .before .if2 .left) in
-    let x = rw (c .before .before .before .before .before .before .before .made .ensures) at (lt-ltb _ _ (c .before .before .before .before .before .if3 .left)) in (simp (z, y, x, c .store .ensures, c .before .packet-of .ensures, c .before .before .broadcast-block .ensures .0, c .before .before .before .before .before .before .before .made .ensures), simp (z, y, x))
+    let x = rw (c .before .before .before .before .before .before .before .made .ensures) at (lt-ltb _ _ (c .before .before .before .before .before .if3 .left)) in (simp (z, y, x, c .store .ensures, c .before .repacked .ensures, c .before .before .broadcast-block .ensures .0, c .before .before .before .before .before .before .before .made .ensures), simp (z, y, x))
 
 pub cast-spec : {M : Type 1} → statement M
 cast-spec =
@@ -60,7 +60,7 @@ cast-spec =
     returns-3
     add-t10
     broadcast-block-requires
-    packet-of-requires
+    repacked-requires
     store-requires
     element-write-memory
     returns-4)

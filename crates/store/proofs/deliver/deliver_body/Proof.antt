@@ -19,14 +19,14 @@ deliver-update-requires c κs = search needs
 enum-known-body-2 : tie.Need-enum-known-body-2
 enum-known-body-2 c = search needs
 
-deliver-reply-requires : tie.Need-deliver-reply-requires
-deliver-reply-requires c κs = search needs
+store-requires : tie.Need-store-requires
+store-requires c κs = search needs
 
 enum-told-2 : tie.Need-enum-told-2
 enum-told-2 c = search needs
 
-deliver-reply-requires-2 : tie.Need-deliver-reply-requires-2
-deliver-reply-requires-2 c κs = search needs
+store-requires-2 : tie.Need-store-requires-2
+store-requires-2 c κs = search needs
 
 returns : tie.Need-returns
 unfolding bodyNumber bodyWords
@@ -38,11 +38,11 @@ returns-2 c = (rw (c .before .before .before .body .given .1) (c .deliver-update
 
 returns-3 : tie.Need-returns-3
 unfolding bodyNumber bodyWords
-returns-3 c = (rw (c .before .before .before .body2 .given .1) (c .deliver-reply .ensures .0), rw (c .before .before .before .body2 .given .1) (c .deliver-reply .ensures .1))
+returns-3 c = (rw (c .before .before .before .body2 .given .1) (c .store .ensures), rw (c .before .before .before .body2 .given .1))
 
 returns-4 : tie.Need-returns-4
 unfolding bodyNumber bodyWords
-returns-4 c = (rw (c .before .before .enum-told2 .given .1) (c .deliver-reply2 .ensures .0), rw (c .before .before .enum-told2 .given .1) (c .deliver-reply2 .ensures .1))
+returns-4 c = (rw (c .before .before .enum-told2 .given .1) (c .store2 .ensures), rw (c .before .before .enum-told2 .given .1))
 
 pub deliver-body-spec : {M : Type 1} → statement M
-deliver-body-spec = tie.close (tie.spec enum-told deliver-read-requires enum-known-body deliver-update-requires enum-known-body-2 deliver-reply-requires enum-told-2 deliver-reply-requires-2 returns returns-2 returns-3 returns-4)
+deliver-body-spec = tie.close (tie.spec enum-told deliver-read-requires enum-known-body deliver-update-requires enum-known-body-2 store-requires enum-told-2 store-requires-2 returns returns-2 returns-3 returns-4)

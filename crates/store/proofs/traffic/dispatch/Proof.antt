@@ -7,6 +7,7 @@ use borrow.Author.Tests.{eq-eqb, ne-eqb}
 use borrow.Author.Needs.{needs}
 use lib.Dec.{eqb}
 use Rattle.names.specs.declared.Card.{Card}
+use Rattle.names.specs.Letters.{letterOf}
 use Rattle.channel.specs.Answers.{answerNumber}
 use Rattle.tables.specs.Outbox.{outCountOf, firstOut, unposted}
 use Rattle.store.specs.Traffic.{handedAnswer, handedMemory, dispatchNumber, dispatchRegisters, dispatchChannel}
@@ -57,8 +58,8 @@ returns-2 c =
     let card = c .before .before .before .before .before .before .before .before .before .before .before .args .card in
     let z : eqb (outCountOf rs (card .0)) 0 ≡ false = ne-eqb _ _ (rw (c .before .before .before .before .before .before .before .before .before .count .ensures) at (c .before .before .before .before .before .before .before .before .if1 .left)) in
     let n : c .before .before .before .number-of .result ≡ dispatchNumber rs cs card =
-    c .before .before .before .number-of .ensures ∙ ap answerNumber (c .before .before .before .before .hand-over .ensures .1 ∙ ap (λ l. handedAnswer cs card l) (c .before .before .before .before .before .before .first .ensures)) ∙ sym (number-is rs cs card z) in
-    let m = c .before .before .before .before .hand-over .ensures .0 ∙ ap (λ l. handedMemory cs card l) (c .before .before .before .before .before .before .first .ensures) ∙ sym (channel-is rs cs card z) in
+    c .before .before .before .number-of .ensures ∙ ap answerNumber (c .before .before .before .before .hand-over .ensures .1 ∙ ap (λ p. handedAnswer cs card (letterOf p)) (c .before .before .before .before .before .before .first .ensures)) ∙ sym (number-is rs cs card z) in
+    let m = c .before .before .before .before .hand-over .ensures .0 ∙ ap (λ p. handedMemory cs card (letterOf p)) (c .before .before .before .before .before .before .first .ensures) ∙ sym (channel-is rs cs card z) in
     (c .unpost .ensures ∙ sym (head-gone rs cs card (sym n ∙ c .before .before .if2 .taken)), (m, n))
 
 returns-3 : tie.Need-returns-3
@@ -68,8 +69,8 @@ returns-3 c =
     let card = c .before .before .before .before .before .before .before .before .before .args .card in
     let z : eqb (outCountOf rs (card .0)) 0 ≡ false = ne-eqb _ _ (rw (c .before .before .before .before .before .before .before .count .ensures) at (c .before .before .before .before .before .before .if1 .left)) in
     let n : c .before .number-of .result ≡ dispatchNumber rs cs card =
-    c .before .number-of .ensures ∙ ap answerNumber (c .before .before .hand-over .ensures .1 ∙ ap (λ l. handedAnswer cs card l) (c .before .before .before .before .first .ensures)) ∙ sym (number-is rs cs card z) in
-    let m = c .before .before .hand-over .ensures .0 ∙ ap (λ l. handedMemory cs card l) (c .before .before .before .before .first .ensures) ∙ sym (channel-is rs cs card z) in
+    c .before .number-of .ensures ∙ ap answerNumber (c .before .before .hand-over .ensures .1 ∙ ap (λ p. handedAnswer cs card (letterOf p)) (c .before .before .before .before .first .ensures)) ∙ sym (number-is rs cs card z) in
+    let m = c .before .before .hand-over .ensures .0 ∙ ap (λ p. handedMemory cs card (letterOf p)) (c .before .before .before .before .first .ensures) ∙ sym (channel-is rs cs card z) in
     (sym (head-stays rs cs card (λ e. c .if2 .left (n ∙ e))), (m, n))
 
 pub dispatch-spec : {M : Type 1} → statement M

@@ -1,4 +1,4 @@
-use Rattle.tables.specs.Outbox.{firstOut}
+use Rattle.tables.specs.Outbox.{firstPacket}
 use borrow.Author.Needs.{needs}
 use Rattle.tables.proofs.outbox.first.Statement.{statement}
 use Rattle.tables.proofs.outbox.first.Tie as tie
@@ -36,12 +36,9 @@ add-load-2 c = search needs
 load-requires : tie.Need-load-requires
 load-requires c κs = search needs
 
-letter-of-requires : tie.Need-letter-of-requires
-letter-of-requires c κs = search needs
-
 returns : tie.Need-returns
-unfolding firstOut
-returns c = simp (← (c .before .before .before .card-place .ensures .0), c .letter-of .ensures, c .before .load .ensures)
+unfolding firstPacket
+returns c = simp (← (c .before .before .card-place .ensures .0), c .load .ensures)
 
 pub first-spec : {M : Type 1} → statement M
 first-spec =
@@ -58,5 +55,4 @@ first-spec =
     mul-load-2
     add-load-2
     load-requires
-    letter-of-requires
     returns)
