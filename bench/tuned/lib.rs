@@ -12,6 +12,8 @@
 //! Left out on purpose, though all of it together is quicker: code shaped for the vectoriser or to have
 //! no branches (many messages tested at once, picks in place of branches), reading codes ahead, and
 //! inlining the step into the loop of a whole run. So this is not the least time that Rust can take.
+//! The proved store has picks in an update and at its end; with the same here, whole runs are some 2 %
+//! quicker (docs/CHANGES.md).
 //! In the check the loops over registers, tasks and broadcasts have no way out between their turns;
 //! those over flights and a card's queues leave at the first fault, where the proved check's queues
 //! have no way out either.
