@@ -78,16 +78,16 @@ function check(k, n, many, form) {
       k++
     } else if (word[k] == "fn") {
       if (word[k + 2] != "(") say("a form that this check does not read: fn " word[k + 1] " " word[k + 2])
-      for (n = parts(k + 2); n > 0; n--) if (part[n] ~ /^channel:&(mut)?\[u32;1364\]$/) {
+      for (n = parts(k + 2); n > 0; n--) if (part[n] ~ /^channel:&(mut)?\[u32;channel@WORDS\]$/) {
         word[starts[n]] = "handed"
-        word[closing(starts[n] + (part[n] ~ /&mut/ ? 4 : 3)) - 1] = "#1364"
+        word[closing(starts[n] + (part[n] ~ /&mut/ ? 4 : 3)) - 1] = "#words"
       }
       k++
-    } else if (word[k] == "channel" && (crate in makes) && joined(k - 2, k + 7) == "letmutchannel=[0u32;1364];") word[k] = "handed"
+    } else if (word[k] == "channel" && (crate in makes) && joined(k - 2, k + 7) == "letmutchannel=[0u32;channel@WORDS];") word[k] = "handed"
     else if (name_in(word[k]) && word[k + 1] == "(") calls(k)
     else if (word[k] == "[" && word[k - 1] != "#" && word[k - 1] !~ /^[])]$/ && !name_in(word[k - 1])) {
       form = joined(k, closing(k))
-      if (form ~ /^\[[0-9]/ || form == "[u32;#1364]" || parts(k) > 1 || (crate, form) in types) continue
+      if (form ~ /^\[[0-9]/ || form == "[u32;#words]" || parts(k) > 1 || (crate, form) in types) continue
       say("a type that is not listed: " form)
     }
   }

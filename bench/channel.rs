@@ -4,6 +4,9 @@ use std::collections::VecDeque;
 use std::hint::black_box;
 use std::process::Command;
 
+// The last broadcasts that are kept: no card is further behind (RULES 7.5).
+const BROADCASTS: usize = 24;
+
 #[derive(Clone, Copy)]
 #[allow(dead_code)]
 enum Body {
@@ -39,7 +42,7 @@ struct Channel {
     registers: u32,
     made: u32,
     taken: [u32; 8],
-    sent: [Option<Letter>; 64],
+    sent: [Option<Letter>; BROADCASTS],
     flight: [Option<Letter>; 16],
     held: [Vec<Letter>; 8],
     inbox: [VecDeque<Letter>; 8],
@@ -53,7 +56,7 @@ impl Channel {
             registers,
             made: 0,
             taken: [0; 8],
-            sent: [None; 64],
+            sent: [None; BROADCASTS],
             flight: [None; 16],
             held: std::array::from_fn(|_| Vec::with_capacity(16)),
             inbox: std::array::from_fn(|_| VecDeque::with_capacity(48)),
@@ -74,14 +77,14 @@ impl Channel {
             return Answer::Refused(14);
         }
         if to.count_ones() > 1 {
-            if self.taken[..self.cards].iter().any(|t| self.made + 1 > t + 64) {
+            if self.taken[..self.cards].iter().any(|t| self.made + 1 > t + BROADCASTS as u32) {
                 return Answer::Refused(34);
             }
             if !self.fits(&message, to) || self.made >= 65535 {
                 return Answer::Refused(6);
             }
             self.made += 1;
-            self.sent[self.made as usize % 64] = Some(Letter { message, to, tag: self.made });
+            self.sent[self.made as usize % BROADCASTS] = Some(Letter { message, to, tag: self.made });
         } else {
             if !self.fits(&message, to) || self.flight[message.task as usize].is_some() {
                 return Answer::Refused(6);
@@ -100,7 +103,7 @@ impl Channel {
             return Answer::Refused(31);
         }
         let next = self.taken[card] + 1;
-        let letter = self.sent[next as usize % 64].unwrap();
+        let letter = self.sent[next as usize % BROADCASTS].unwrap();
         let there = letter.to >> card & 1 == 1;
         let inbox = &mut self.inbox[card];
         if there && inbox.iter().filter(|l| l.to.count_ones() > 1).count() >= 32 {

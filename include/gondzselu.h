@@ -4,9 +4,9 @@
  * is promised of a run. firmware/c/k9.c is a first program.
  *
  * Memory    A store is two memories that the caller lends, changed in place, aligned as uint32_t:
- *           7,828 bytes. Each has its type, so that swapped ones do not compile (older C compilers
+ *           7,508 bytes. Each has its type, so that swapped ones do not compile (older C compilers
  *           only warn: use -Werror). Any words are safe to lend (RULES 11.2). What lies where is in
- *           RULES 11.12; a store kept by a library of before 0.4.0 is no store here. The library
+ *           RULES 11.12; a store kept by a library of before 0.5.0 is no store here. The library
  *           keeps nothing elsewhere, and needs memcpy and memset and no other function.
  * Pointers  None is NULL, also where a length is 0. What a call writes overlaps nothing else that
  *           it is given (RULES 11.2).
@@ -32,7 +32,7 @@ extern "C" {
 /* ---- version */
 
 #define GONDZSELU_VERSION_MAJOR 0
-#define GONDZSELU_VERSION_MINOR 4
+#define GONDZSELU_VERSION_MINOR 5
 #define GONDZSELU_VERSION_PATCH 0
 #define GONDZSELU_VERSION \
     (GONDZSELU_VERSION_MAJOR * 1000000 + GONDZSELU_VERSION_MINOR * 1000 + GONDZSELU_VERSION_PATCH)
@@ -40,18 +40,19 @@ extern "C" {
 /* The library's version, to be compared with GONDZSELU_VERSION: the header may be of another. */
 uint32_t gondzselu_version(void);
 
-/* ---- limits (RULES 1.3, 3.2, 4.1, 7.8, 11.1, 14.6) */
+/* ---- limits (RULES 1.3, 3.2, 4.1, 7.5, 7.8, 11.1, 14.6) */
 
 #define GONDZSELU_CARDS_MAX 8
 #define GONDZSELU_REGISTERS_MAX 32
 #define GONDZSELU_TASKS_MAX 16
 #define GONDZSELU_STEPS_MAX 4096     /* of a run file; calls have no such limit */
 #define GONDZSELU_REQUESTS_MAX 65535 /* of a store, from its start on */
+#define GONDZSELU_BEHIND_MAX 24      /* broadcasts made that a card has yet to take */
 #define GONDZSELU_FILE_MAX 36949     /* bytes of the longest run file */
 #define GONDZSELU_ANSWER_MAX 20482   /* bytes of the longest answer file */
 #define GONDZSELU_SENTENCE_MAX 55    /* bytes of the longest sentence; no zero byte ends it */
 #define GONDZSELU_REGISTERS_WORDS 593
-#define GONDZSELU_CHANNEL_WORDS 1364
+#define GONDZSELU_CHANNEL_WORDS 1284
 
 /* Bytes of stack that a call uses at most: gondzselu_answer and gondzselu_answer_counted, which
  * have a store of their own there; and any other call. Measured by firmware/c/stack.c and rounded
@@ -143,7 +144,7 @@ enum gondzselu_refusal {
     GONDZSELU_NO_BROADCAST = 31,
     GONDZSELU_NOT_IN_FLIGHT = 32,
     GONDZSELU_INBOX_EMPTY = 33,
-    GONDZSELU_TOO_FAR_BEHIND = 34, /* some card is 64 broadcasts behind: it takes one first */
+    GONDZSELU_TOO_FAR_BEHIND = 34, /* some card is 24 broadcasts behind: it takes one first */
     GONDZSELU_INBOX_FULL = 35,     /* 32 undelivered broadcasts: the card delivers first */
     /* of a sentence */
     GONDZSELU_NO_PHRASE = 36 /* the number is no refusal of a step */

@@ -6,6 +6,11 @@ use crate::{refused, Answer, Store, BROADCASTS, HELD, INBOX, MOST, OUTBOX, TAKEN
 /// Undelivered broadcasts in an inbox (RULES 7.6).
 const UNDELIVERED: usize = 32;
 
+/// Where the broadcast after so many lies. Divided in 32 bits, and by a constant: a multiplication.
+fn next_place(before: u32) -> usize {
+    (before % BROADCASTS as u32) as usize
+}
+
 impl Store {
     /// Behind the last message of an outbox that is not full.
     pub(crate) fn join_outbox(&mut self, card: usize, message: Message) {
@@ -41,7 +46,7 @@ impl Store {
             if made >= MOST {
                 return refused(6);
             }
-            self.broadcast[made as usize % BROADCASTS] = message;
+            self.broadcast[next_place(made)] = message;
             self.made = made + 1;
         } else {
             let task = task(message.word);
@@ -62,7 +67,7 @@ impl Store {
             return refused(31);
         }
         let number = taken + 1;
-        let message = self.broadcast[taken as usize % BROADCASTS];
+        let message = self.broadcast[next_place(taken)];
         let joins = message.word >> TO >> card & 1 == 1;
         let count = self.inbox_count[card] as usize;
         // An inbox with fewer messages has fewer broadcasts: they are seldom counted.

@@ -47,12 +47,12 @@ const OUTBOX: usize = 16;
 const INBOX: usize = 48;
 const HELD: usize = 16;
 /// The last broadcasts that are kept: no card is further behind (RULES 7.5).
-const BROADCASTS: usize = 64;
+const BROADCASTS: usize = 24;
 /// Broadcasts made, requests taken, and a tag, at most (RULES 7.7, 7.8, 8.6 g).
 const MOST: u32 = 65_535;
 
 /// Tables by card, task and register are at their largest. A queue is a ring with its head and its
-/// count; held messages lie from place 0 on in order of arrival. Broadcast n is at (n - 1) % 64.
+/// count; held messages lie from place 0 on in order of arrival. Broadcast n is at (n - 1) % 24.
 #[derive(Clone, PartialEq)]
 pub struct Store {
     cards: u32,

@@ -9,7 +9,7 @@ static const char *const doing[] = {
     [GONDZSELU_QUIET] = "quiet", [GONDZSELU_ASKING_READ] = "asking to read",
     [GONDZSELU_ASKING_UPDATE] = "asking to update", [GONDZSELU_WAITING] = "waiting",
     [GONDZSELU_DONE_READ] = "done with a read", [GONDZSELU_DONE_UPDATE] = "done with an update"};
-static gondzselu_registers r; /* The store: 7,828 bytes in two memories, much for a small stack. */
+static gondzselu_registers r; /* The store: 7,508 bytes in two memories, much for a small stack. */
 static gondzselu_channel c;
 static int fail(const char *why) { return fprintf(stderr, "k9: %s\n", why), 1; }
 

@@ -38,5 +38,6 @@ pub mod CallsEvents
 pub mod CallsEpoch
 pub mod CallsComplete
 -- What the refusals say
+pub mod KeepsUp
 pub mod ReleasedLists
 pub mod RefusalsMean

@@ -6,7 +6,7 @@ use mathlib.Core.List.{List, [], _∷_, _++_}
 use mathlib.Core.Option.{Option, none, some}
 use Prim.Native.Nat.{ℕ, suc, _+_, _<_, _≤_}
 use native.Mathlib.Omega.{arith}
-use borrow.Author.Tests.{leb-true, leb-false, le-leb, lt-leb}
+use borrow.Author.Tests.{leb-true, le-leb}
 use lib.Dec.{leb, ltb}
 use lib.ListN.{length}
 use Rattle.lists.specs.Tests.{and-fst, and-snd}
@@ -14,10 +14,12 @@ use Rattle.lists.specs.Every.{each, each-fails, each-failing}
 use Rattle.lists.specs.Filters.{filter}
 use Rattle.lists.specs.Queues.{push}
 use Rattle.lists.specs.Places.{nth, nth-none, nth-past}
+use Rattle.automaton.specs.MostBehind.{mostBehind, keepsUp}
 use Rattle.automaton.specs.Mail.{Mail}
 use Rattle.automaton.specs.State.{Tagged, ChannelState, released}
 use Rattle.automaton.specs.Refusals.{otherwise, broadcastRefusal, flightRefusal, takeRefusal, singleRefusal, receiveRefusal, channelRefusal}
 use Rattle.automaton.specs.RefusalMeanings.{RefusalMeanings}
+use Rattle.automaton.proofs.KeepsUp.{falls-behind, fell-behind}
 
 other-six : (b : Bool) (n : ℕ) → n ≢ 0 → n ≢ 6 → otherwise 6 b ≢ n
 other-six true n p q e = p (sym e)
@@ -64,18 +66,18 @@ module _ {M : Type 0} (mail : Mail M) (cards : ℕ) (w : ChannelState M) where
   flight-34 (some x) e = omega arith
 
   near : ℕ → Bool
-  near j = leb (suc (length (w .sent))) (w .taken j + 64)
+  near j = keepsUp (suc (length (w .sent))) (w .taken j)
 
   dispatch-34 : (b : Bool) (m : M) → cond b (broadcastRefusal mail cards w) (flightRefusal mail cards (w .flight (mail .task m))) ≡ 34
-      → (b ≡ true) × (j : ℕ) × (j < cards) × (w .taken j + 64 < suc (length (w .sent)))
+      → (b ≡ true) × (j : ℕ) × (j < cards) × (w .taken j + mostBehind < suc (length (w .sent)))
   unfolding near
   dispatch-34 false m e = absurd (flight-34 (w .flight (mail .task m)) e)
   dispatch-34 true m e = let x = go (each cards near) refl e in (refl, x .0, x .1, x .2)
     where
       go : (b : Bool) → each cards near ≡ b → cond b (otherwise 6 (ltb (length (w .sent)) 65535)) 34 ≡ 34
-          → (j : ℕ) × (j < cards) × (w .taken j + 64 < suc (length (w .sent)))
+          → (j : ℕ) × (j < cards) × (w .taken j + mostBehind < suc (length (w .sent)))
       go true h q = absurd (other-six (ltb (length (w .sent)) 65535) 34 (omega arith) (omega arith) q)
-      go false h q = let f = each-failing cards near h in (f .0, f .1, leb-false _ _ (f .2))
+      go false h q = let f = each-failing cards near h in (f .0, f .1, fell-behind _ _ (f .2))
 
   pub refusals-mean : RefusalMeanings mail cards w
   unfolding channelRefusal near
@@ -84,6 +86,6 @@ module _ {M : Type 0} (mail : Mail M) (cards : ℕ) (w : ChannelState M) where
     none-in-flight = λ t. ((λ e. single-32 (w .flight t) e), (λ h. rw h));
     inbox-empty = λ i. ((λ e. receive-33 (w .inbox i) e), (λ h. rw h));
     far-behind =
-        λ i m. ((λ e. dispatch-34 (mail .multi m) m e), (λ h. rw (h .0, each-fails cards near (h .1) (h .2) (lt-leb (suc (length (w .sent))) (w .taken (h .1) + 64) (h .3)))));
+        λ i m. ((λ e. dispatch-34 (mail .multi m) m e), (λ h. rw (h .0, each-fails cards near (h .1) (h .2) (falls-behind (suc (length (w .sent))) (w .taken (h .1)) (h .3)))));
     crowded = λ i. ((λ e. take-35 i (nth (w .sent) (w .taken i)) e), (λ h. rw (h .1, h .2, le-leb 32 (length (filter (mail .multi) (w .inbox i))) (h .3))));
   }

@@ -11,6 +11,7 @@ use Rattle.lists.specs.Filters.{filter}
 use Rattle.lists.specs.Queues.{push}
 use Rattle.lists.specs.Maps.{map-push, length-filter-map}
 use Rattle.lists.specs.Places.{nth}
+use Rattle.automaton.specs.MostBehind.{keepsUp}
 use Rattle.automaton.specs.Mail.{Mail}
 use Rattle.automaton.specs.State.{Tagged, ChannelState, released, ChannelAction, dispatch, takeBroadcast, takeSingle, deliver, ripe}
 use Rattle.automaton.specs.Refusals.{otherwise, broadcastRefusal, flightRefusal, dispatchRefusal, takeRefusal, singleRefusal, receiveRefusal, channelRefusal}
@@ -24,7 +25,7 @@ module _ {M N : Type 0} (h : M → N) (a : Mail M) (b : Mail N) (r : Alike h a b
 
   dispatchRefusal-map : (w : ChannelState M) (m : M) → dispatchRefusal b cards (channel-map h w) (h m) ≡ dispatchRefusal a cards w m
   dispatchRefusal-map w m =
-      ap₂ (λ t n. cond t (cond (each cards (λ i. leb (suc n) (w .taken i + 64))) (otherwise 6 (ltb n 65535)) 34)
+      ap₂ (λ t n. cond t (cond (each cards (λ i. keepsUp (suc n) (w .taken i))) (otherwise 6 (ltb n 65535)) 34)
       (flightRefusal b cards (Option·map (tag-map h) (w .flight (b .task (h m))))))
       (r .multi= m) (length-map (w .sent) h)
       ∙ ap (cond (a .multi m) (broadcastRefusal a cards w))

@@ -52,7 +52,7 @@ goes reply i = eqb i 0
 goes partial i = eqb i 1 || eqb i 2
 goes second i = eqb i 1
 
-abbrev notes : Mail Note
+abbrev pub notes : Mail Note
 notes = record { task = taskOf; to = goes; multi = several; dest = goal }
 
 abbrev setup : Setup Note
@@ -63,7 +63,7 @@ abbrev newest : List (ChannelAction Note) → List (ChannelAction Note) → List
 newest [] l = l
 newest (x ∷ xs) l = newest xs (x ∷ l)
 
-abbrev after : List (ChannelAction Note) → ChannelState Note
+abbrev pub after : List (ChannelAction Note) → ChannelState Note
 after xs = calls setup (newest xs [])
 
 -- K9 (RULES 3.5): card 2 sends the update; card 0 takes and receives it, then sends the setting of register 1; step 8 brings that to card 1

@@ -2,6 +2,7 @@
 pub mod Mail
 pub mod State
 pub mod Renaming
+pub mod MostBehind
 pub mod Refusals
 pub mod RefusalMeanings
 -- 000 §6: the automaton, the order T, and the steps that an operation is
@@ -13,3 +14,4 @@ pub mod Trace
 pub mod Calls
 pub mod AtRest
 pub mod Examples
+pub mod LimitExamples

@@ -8,6 +8,7 @@ use Prim.Native.Nat.{ℕ, suc, _+_, _<_, _≤_}
 use lib.ListN.{length}
 use Rattle.lists.specs.Filters.{filter}
 use Rattle.lists.specs.Places.{nth}
+use Rattle.automaton.specs.MostBehind.{mostBehind}
 use Rattle.automaton.specs.Mail.{Mail}
 use Rattle.automaton.specs.State.{ChannelState, dispatch, takeBroadcast, takeSingle, deliver}
 use Rattle.automaton.specs.Refusals.{channelRefusal}
@@ -20,9 +21,9 @@ module _ {M : Type 0} (mail : Mail M) (cards : ℕ) (w : ChannelState M) where
     pub none-in-flight : (t : ℕ) → (channelRefusal mail cards w (takeSingle t) ≡ 32) ↔ (w .flight t ≡ none)
     -- 33: the inbox is empty
     pub inbox-empty : (i : ℕ) → (channelRefusal mail cards w (deliver i) ≡ 33) ↔ (w .inbox i ≡ [])
-    -- 34: the message is a broadcast, which would leave a present card more than 64 behind (RULES 7.5, 7.10)
+    -- 34: the message is a broadcast, which would leave a present card more than `mostBehind` behind (RULES 7.5, 7.10)
     pub far-behind : (i : ℕ) (m : M)
-        → (channelRefusal mail cards w (dispatch i m) ≡ 34) ↔ ((mail .multi m ≡ true) × (j : ℕ) × (j < cards) × (w .taken j + 64 < suc (length (w .sent))))
+        → (channelRefusal mail cards w (dispatch i m) ≡ 34) ↔ ((mail .multi m ≡ true) × (j : ℕ) × (j < cards) × (w .taken j + mostBehind < suc (length (w .sent))))
     -- 35: the card is a destination and its inbox already has 32 undelivered broadcasts (RULES 7.6, 7.11)
     pub crowded : (i : ℕ)
         → (channelRefusal mail cards w (takeBroadcast i) ≡ 35)

@@ -9,6 +9,7 @@ use Rattle.lists.specs.Every.{each}
 use Rattle.lists.specs.Filters.{filter}
 use Rattle.lists.specs.Queues.{push}
 use Rattle.lists.specs.Places.{nth}
+use Rattle.automaton.specs.MostBehind.{keepsUp}
 use Rattle.automaton.specs.Mail.{Mail}
 use Rattle.automaton.specs.State.{Tagged, ChannelState, released, ChannelAction, dispatch, takeBroadcast, takeSingle, deliver, ripe}
 
@@ -18,10 +19,10 @@ otherwise n true = 0
 otherwise n false = n
 
 module _ {M : Type 0} (mail : Mail M) (cards : ℕ) where
-  -- 34: a card would be more than 64 behind (RULES 7.5); 6: broadcast 65,536 (7.7)
+  -- 34: a card would be more than `mostBehind` behind (RULES 7.5); 6: broadcast 65,536 (7.7)
   abbrev pub broadcastRefusal : ChannelState M → ℕ
   broadcastRefusal w =
-      cond (each cards (λ i. leb (suc (length (w .sent))) (w .taken i + 64))) (otherwise 6 (ltb (length (w .sent)) 65535)) 34
+      cond (each cards (λ i. keepsUp (suc (length (w .sent))) (w .taken i))) (otherwise 6 (ltb (length (w .sent)) 65535)) 34
 
   -- 6: a second message of the task in flight (RULES 7.4)
   abbrev pub flightRefusal : Option (Tagged M) → ℕ

@@ -10,7 +10,7 @@ use Rattle.lists.specs.Tests.{and-intro}
 use Rattle.lists.specs.Listings.{listing}
 use Rattle.automaton.specs.State.{initialChannel}
 use Rattle.names.specs.Letters.{kindIn}
-use Rattle.channel.specs.Layout.{takenWord, headWord, countWord, heldWord, flightBlock}
+use Rattle.channel.specs.Layout.{channelWords, takenWord, headWord, countWord, heldWord, flightBlock}
 use Rattle.channel.specs.Begin.{sizesFit, begun}
 use Rattle.channel.specs.TakeSingle.{noFlight}
 use Rattle.channel.specs.Sized.{flightFits, headFits}
@@ -18,21 +18,21 @@ use Rattle.channel.specs.Shows.{inboxOf, heldOf, flightOf, Shows}
 use Rattle.channel.proofs.WellSizedParts.{Fit}
 
 abbrev blank : List ℕ
-blank = replicate 1364 0
+blank = replicate channelWords 0
 
 zeros : (n a : ℕ) → getD (replicate {A = ℕ} n 0) a 0 ≡ 0
 zeros zero a = refl
 zeros (suc n) zero = refl
 zeros (suc n) (suc a) = zeros n a
 
-blank-long : length blank ≡ 1364
-blank-long = length-replicate {A = ℕ} 1364 0
+blank-long : length blank ≡ channelWords
+blank-long = length-replicate {A = ℕ} channelWords 0
 
 module _ (cards tasks registers : ℕ) (ok : sizesFit cards tasks registers ≡ true) where
   abbrev ws : List ℕ
   ws = begun cards tasks registers
 
-  pub begun-long : length ws ≡ 1364
+  pub begun-long : length ws ≡ channelWords
   unfolding begun
   begun-long = simp (length-set, blank-long)
 
@@ -42,7 +42,7 @@ module _ (cards tasks registers : ℕ) (ok : sizesFit cards tasks registers ≡ 
   nothing a h =
       getD-set-other (set (set blank 0 cards) 1 tasks) 2 a registers 0 (omega arith)
       ∙ getD-set-other (set blank 0 cards) 1 a tasks 0 (omega arith)
-      ∙ getD-set-other blank 0 a cards 0 (omega arith) ∙ zeros 1364 a
+      ∙ getD-set-other blank 0 a cards 0 (omega arith) ∙ zeros channelWords a
 
   pub cards-is : getD ws 0 0 ≡ cards
   unfolding begun

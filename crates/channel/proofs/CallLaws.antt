@@ -18,7 +18,7 @@ use Rattle.channel.specs.declared.Answer.the-variants.{NoCard}
 use Rattle.channel.specs.declared.Received.the-variants.{Got, NoSuchCard, Empty}
 use Rattle.automaton.specs.State.{ChannelState, ChannelAction, dispatch, takeBroadcast, takeSingle, deliver, channelStep}
 use Rattle.automaton.specs.Refusals.{otherwise, channelRefusal}
-use Rattle.channel.specs.Layout.{cardsOf, tasksOf, countOf, broadcastBlock, madeOf}
+use Rattle.channel.specs.Layout.{channelWords, cardsOf, tasksOf, countOf, broadcastBlock, madeOf}
 use Rattle.names.specs.CardSet.{several}
 use Rattle.names.specs.Letters.{letterAt}
 use Rattle.channel.specs.Letters.{fits}
@@ -99,7 +99,7 @@ fly-alone ws i l h = left-alone ws _ (flyAnswer ws l) h
 
 -- ---- the four calls
 
-module _ (ws : List ℕ) (w : ChannelState Letter) (long : length ws ≡ 1364) (ok : wellSized ws ≡ true) (v : Shows ws w) where
+module _ (ws : List ℕ) (w : ChannelState Letter) (long : length ws ≡ channelWords) (ok : wellSized ws ≡ true) (v : Shows ws w) where
   f : Fit ws
   f = fit-of ws ok
 
@@ -220,5 +220,5 @@ shows-state ws = record {
 }
 
 -- so each call on a well-sized memory follows the idealised channel, whether or not calls ever lead to it
-pub any-follows : (ws : List ℕ) → length ws ≡ 1364 → wellSized ws ≡ true → (c : Call) → CallFollows ws (stateOf ws) c
+pub any-follows : (ws : List ℕ) → length ws ≡ channelWords → wellSized ws ≡ true → (c : Call) → CallFollows ws (stateOf ws) c
 any-follows ws long ok c = call-follows ws (stateOf ws) long ok (shows-state ws) c

@@ -1,12 +1,12 @@
 -- `dispatch` answers and does what the idealised step 6 does.
-use Prim.Native.Nat.{ℕ, suc, _+_, _<_}
-use mathlib.Core.Path.{_≡_, refl}
+use Prim.Native.Nat.{ℕ, suc, _<_}
+use mathlib.Core.Path.{_≡_, refl, ap}
 use mathlib.Core.Bool.{Bool, true, false, cond}
 use mathlib.Core.List.{List}
 use mathlib.Core.Option.{Option, none, some}
 use native.Mathlib.Numerals.{add-one}
 use borrow.Author.Tests.{ltb-true}
-use lib.Dec.{eqb, ltb, leb}
+use lib.Dec.{eqb, ltb}
 use lib.ListN.{length}
 use Rattle.lists.specs.Every.{each, each-cong}
 use Rattle.lists.specs.Tests.{and-fst}
@@ -16,7 +16,8 @@ use Rattle.names.specs.declared.Letter.{Letter}
 use Rattle.channel.specs.declared.Answer.the-variants.{Done, IllSized, NoCard, FarBehind}
 use Rattle.automaton.specs.State.{Tagged, ChannelState, dispatching}
 use Rattle.automaton.specs.Refusals.{otherwise, broadcastRefusal, flightRefusal, dispatchRefusal}
-use Rattle.channel.specs.Layout.{cardsOf, tasksOf, madeOf, flightBlock}
+use Rattle.automaton.specs.MostBehind.{keepsUp}
+use Rattle.channel.specs.Layout.{cardsOf, tasksOf, madeOf, takenOf, flightBlock}
 use Rattle.names.specs.CardSet.{several}
 use Rattle.channel.specs.Letters.{fits}
 use Rattle.channel.specs.Answers.{answerNumber, isDone}
@@ -31,13 +32,13 @@ use Rattle.channel.proofs.Sending.{fly-shows, cast-shows}
 
 module _ (ws : List ℕ) (w : ChannelState Letter) (z : Sized ws) (v : Shows ws w) where
   -- 34 looks at each present card
-  near-is : near ws ≡ each (cardsOf ws) (λ i. leb (suc (length (w .sent))) (w .taken i + 64))
+  near-is : near ws ≡ each (cardsOf ws) (λ i. keepsUp (suc (length (w .sent))) (w .taken i))
   unfolding near nearAt
-  near-is = each-cong (cardsOf ws) _ _ (λ i c. rw (v .made=, v .taken= i c, add-one (madeOf ws)))
+  near-is = each-cong (cardsOf ws) _ _ (λ i c. rw (v .made=, v .taken= i c) (ap (λ n. keepsUp n (takenOf ws i)) (add-one (madeOf ws))))
 
   cast-number : (l : Letter) → answerNumber (castAnswer ws l) ≡ orElse (broadcastRefusal letterMail (cardsOf ws) w) (otherwise 6 (fits ws l))
   unfolding castAnswer answerNumber
-  cast-number l = rw (near-is, v .made=) (go (each (cardsOf ws) (λ i. leb (suc (madeOf ws)) (w .taken i + 64))) (fits ws l) (ltb (madeOf ws) 65535))
+  cast-number l = rw (near-is, v .made=) (go (each (cardsOf ws) (λ i. keepsUp (suc (madeOf ws)) (w .taken i))) (fits ws l) (ltb (madeOf ws) 65535))
     where
       go : (a b c : Bool) → answerNumber (cond a (cond b (cond c Done IllSized) IllSized) FarBehind) ≡ orElse (cond a (otherwise 6 c) 34) (otherwise 6 b)
       go true true true = refl

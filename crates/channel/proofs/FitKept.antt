@@ -10,7 +10,7 @@ use Rattle.lists.specs.Tests.{clash, and-fst, and-snd}
 use Rattle.names.specs.CardSet.{single, soleOf}
 use Rattle.names.specs.declared.Letter.{Letter}
 use Rattle.names.specs.declared.Packet.{Packet}
-use Rattle.channel.specs.Layout.{madeWord, flightBlock, cardsOf, madeOf}
+use Rattle.channel.specs.Layout.{channelWords, madeWord, flightBlock, cardsOf, madeOf}
 use Rattle.names.specs.Letters.{letterOf, packetAt, letterAt}
 use Rattle.channel.specs.TakeSingle.{noFlight, flightTag}
 use Rattle.channel.specs.Sized.{packetFits, taggedFits, flightFits, headFits}
@@ -48,7 +48,7 @@ flight-packet ws t e n =
       small = tagged-small ws (flightBlock t) b;
     }
 
-pub sized-of : (ws : List ℕ) → length ws ≡ 1364 → Fit ws → Sized ws
+pub sized-of : (ws : List ℕ) → length ws ≡ channelWords → Fit ws → Sized ws
 sized-of ws long f = record {
   long = long;
   counts = λ i c. f .card i c .count;
@@ -90,8 +90,8 @@ card-keeps us ws i card o f g =
 
 pub record Kept (us ws : List ℕ) : Type 0 where
   pub fit : Fit us
-  pub long : length us ≡ 1364
+  pub long : length us ≡ channelWords
   pub sizes : SameSizes us ws
 
-pub unchanged : (ws : List ℕ) → length ws ≡ 1364 → Fit ws → Kept ws ws
+pub unchanged : (ws : List ℕ) → length ws ≡ channelWords → Fit ws → Kept ws ws
 unchanged ws l f = record { fit = f; long = l; sizes = record { cards = refl; tasks = refl; registers = refl } }

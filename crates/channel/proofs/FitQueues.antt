@@ -7,7 +7,7 @@ use native.Mathlib.Decide.{decLt}
 use native.Mathlib.Omega.{arith}
 use lib.ListN.{length, getD}
 use Rattle.names.specs.declared.Packet.{Packet}
-use Rattle.channel.specs.Layout.{inboxBlock, heldBlock, headOf, countOf, placeOf}
+use Rattle.channel.specs.Layout.{channelWords, inboxBlock, heldBlock, headOf, countOf, placeOf}
 use Rattle.names.specs.Letters.{packetAt, tagAt, stored, marked}
 use Rattle.channel.specs.Inbox.{pushed, popped}
 use Rattle.channel.specs.Sized.{packetFits, blockFits, taggedFits, inboxFits, heldFits}
@@ -48,7 +48,7 @@ box-same us ws i s eh ec e f k h =
     let g : (q : ℕ) → q < 2 → getD us (placeOf ws i k + q) 0 ≡ getD ws (placeOf ws i k + q) 0 = λ q r. e _ (omega arith) (omega arith) in
     rw (eh, block-same us ws s (placeOf ws i k) g) (f k (rw (← ec) h))
 
-module _ (ws : List ℕ) (i : ℕ) (l : Packet) (long : length ws ≡ 1364) (card : i < 8) (room : countOf ws i < 48) where
+module _ (ws : List ℕ) (i : ℕ) (l : Packet) (long : length ws ≡ channelWords) (card : i < 8) (room : countOf ws i < 48) where
   abbrev us : List ℕ
   us = pushed ws i l
 
@@ -74,7 +74,7 @@ module _ (ws : List ℕ) (i : ℕ) (l : Packet) (long : length ws ≡ 1364) (car
           rw (pushed-head ws i l long card room, e) (put-fits us us ws (placeOf ws i (countOf ws i)) l f w v)
 
 -- a pop
-module _ (ws : List ℕ) (i : ℕ) (long : length ws ≡ 1364) (card : i < 8) (n : ℕ) (some-in : countOf ws i ≡ suc n) where
+module _ (ws : List ℕ) (i : ℕ) (long : length ws ≡ channelWords) (card : i < 8) (n : ℕ) (some-in : countOf ws i ≡ suc n) where
   pub pop-sizes : SameSizes (popped ws i) ws
   pop-sizes =
       let p = popped-word ws i long card n some-in in
@@ -104,7 +104,7 @@ held-same us ws i n s e f k h =
     rw (tagged-same us ws s (heldBlock i k) g) (f k h)
 
 -- and one more, written after them
-pub held-put : (us ws : List ℕ) (i n : ℕ) (l : Packet) (t : ℕ) → SameSizes us ws → n < 16 → i < 8 → length ws ≡ 1364
+pub held-put : (us ws : List ℕ) (i n : ℕ) (l : Packet) (t : ℕ) → SameSizes us ws → n < 16 → i < 8 → length ws ≡ channelWords
     → ((a : ℕ) → heldBlock i 0 ≤ a → a < heldBlock i n → getD us a 0 ≡ getD ws a 0)
     → ((k : ℕ) → k < 3 → getD us (heldBlock i n + k) 0 ≡ getD (marked ws (heldBlock i n) l t) (heldBlock i n + k) 0)
     → t ≤ 65535 → packetFits us l ≡ true → HeldFit ws i n → HeldFit us i (suc n)

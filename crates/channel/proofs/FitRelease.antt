@@ -12,7 +12,7 @@ use lib.Seq.{getD-set-same}
 use Rattle.lists.specs.Loops.{turns}
 use Rattle.names.specs.declared.Packet.{Packet}
 use Rattle.automaton.specs.State.{released}
-use Rattle.channel.specs.Layout.{headWord, countWord, heldWord, heldBlock, countOf, heldCountOf}
+use Rattle.channel.specs.Layout.{channelWords, headWord, countWord, heldWord, heldBlock, countOf, heldCountOf}
 use Rattle.names.specs.Letters.{packetAt, tagAt, marked}
 use Rattle.channel.specs.Inbox.{pushed}
 use Rattle.channel.specs.TakeBroadcast.{Sweep, sweeps, swept, releasedWords}
@@ -91,7 +91,7 @@ module _ (ws : List ℕ) (i n : ℕ) (card : i < 8) (k : ℕ) (s : Sweep) (h : k
       go true e = fit-joins e
       go false e = fit-stays e
 
-sweeps-fit : (ws : List ℕ) (i n : ℕ) (card : i < 8) → length ws ≡ 1364 → BoxFit ws i → (k j : ℕ) → k + j ≤ 16
+sweeps-fit : (ws : List ℕ) (i n : ℕ) (card : i < 8) → length ws ≡ channelWords → BoxFit ws i → (k j : ℕ) → k + j ≤ 16
     → countOf ws i + length (released n (heldFirst ws i (k + j))) ≤ 48 → HeldFit ws i (k + j) → SweptFit ws i (sweeps i n k ws)
 unfolding sweeps turns
 sweeps-fit ws i n card long b zero j h room g =
@@ -103,7 +103,7 @@ sweeps-fit ws i n card long b (suc k) j h room g =
     (sweeps-swept ws i n card long k (suc j) (omega arith) (rw e at room))
     (sweeps-fit ws i n card long b k (suc j) (omega arith) (rw e at room) (rw e at g)) (g k (omega arith))
 
-module _ (ws : List ℕ) (i n : ℕ) (card : i < 8) (long : length ws ≡ 1364) (few : heldCountOf ws i ≤ 16)
+module _ (ws : List ℕ) (i n : ℕ) (card : i < 8) (long : length ws ≡ channelWords) (few : heldCountOf ws i ≤ 16)
     (room : countOf ws i + length (released n (heldOf ws i)) ≤ 48) (b : BoxFit ws i) (g : HeldFit ws i (heldCountOf ws i)) where
   swept-fit : SweptFit ws i (end ws i n card long few room)
   unfolding heldOf

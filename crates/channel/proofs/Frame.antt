@@ -11,7 +11,7 @@ use Rattle.lists.specs.Places.{nth}
 use Rattle.names.specs.declared.Letter.{Letter}
 use Rattle.automaton.specs.State.{ChannelState}
 use Rattle.names.specs.Letters.{letterAt}
-use Rattle.channel.specs.Layout.{takenWord, headWord, countWord, heldWord, flightBlock, broadcastBlock, cardsOf, tasksOf, madeOf, takenOf, headOf, countOf, heldCountOf}
+use Rattle.channel.specs.Layout.{channelWords, takenWord, headWord, countWord, heldWord, flightBlock, broadcastBlock, cardsOf, tasksOf, madeOf, takenOf, headOf, countOf, heldCountOf}
 use Rattle.channel.specs.TakeSingle.{noFlight}
 use Rattle.channel.specs.Shows.{inboxOf, heldOf, flightOf, Shows}
 use Rattle.names.proofs.Blocks.{letter-cong}
@@ -44,7 +44,7 @@ sent-words us ws n e = letter-cong us ws (broadcastBlock n) (λ k g. e _ (omega 
 -- ---- only card i's part changed
 
 pub record Outside (i : ℕ) (us ws : List ℕ) : Type 0 where
-  pub long : length us ≡ 1364
+  pub long : length us ≡ channelWords
   pub low : (a : ℕ) → a < takenWord i → getD us a 0 ≡ getD ws a 0
   pub high : (a : ℕ) → takenWord (i + 1) ≤ a → getD us a 0 ≡ getD ws a 0
 

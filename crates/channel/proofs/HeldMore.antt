@@ -10,14 +10,14 @@ use lib.ListN.{length, getD, set, length-set}
 use lib.Seq.{getD-set-same, getD-set-other}
 use Rattle.lists.specs.Listings.{listing}
 use Rattle.names.specs.declared.Packet.{Packet}
-use Rattle.channel.specs.Layout.{headWord, countWord, heldWord, heldBlock, headOf, countOf, heldCountOf}
+use Rattle.channel.specs.Layout.{channelWords, headWord, countWord, heldWord, heldBlock, headOf, countOf, heldCountOf}
 use Rattle.names.specs.Letters.{letterOf, marked}
 use Rattle.channel.specs.TakeSingle.{heldMore}
 use Rattle.channel.specs.Shows.{taggedAt, inboxOf, heldOf}
 use Rattle.names.proofs.Blocks.{marked-other, marked-letter, mark-same, length-marked}
 use Rattle.channel.proofs.InboxRing.{tagged-cong, held-cong, ring-cong}
 
-module _ (ws : List ℕ) (i : ℕ) (l : Packet) (tag : ℕ) (card : i < 8) (long : length ws ≡ 1364) (room : heldCountOf ws i < 16) where
+module _ (ws : List ℕ) (i : ℕ) (l : Packet) (tag : ℕ) (card : i < 8) (long : length ws ≡ channelWords) (room : heldCountOf ws i < 16) where
   abbrev pub place : ℕ
   place = heldBlock i (heldCountOf ws i)
 
@@ -34,7 +34,7 @@ module _ (ws : List ℕ) (i : ℕ) (l : Packet) (tag : ℕ) (card : i < 8) (long
   pub more-block : (k : ℕ) → k < 3 → getD (heldMore ws i l tag) (place + k) 0 ≡ getD put (place + k) 0
   more-block k g = rw more-is (getD-set-other put (heldWord i) (place + k) (heldCountOf ws i + 1) 0 (omega arith))
 
-  pub more-long : length (heldMore ws i l tag) ≡ 1364
+  pub more-long : length (heldMore ws i l tag) ≡ channelWords
   more-long = rw more-is (length-set put (heldWord i) (heldCountOf ws i + 1) ∙ length-marked ws place l tag ∙ long)
 
   pub more-count : heldCountOf (heldMore ws i l tag) i ≡ heldCountOf ws i + 1

@@ -1,5 +1,5 @@
 -- A memory is ill sized exactly if one of the listed kinds holds: each test that fails is one of them, and a well-sized memory has none.
-use Prim.Native.Nat.{ℕ, _+_, _-_, _<_, _≤_, _^_, min}
+use Prim.Native.Nat.{ℕ, _-_, _<_, _≤_, _^_, min}
 use mathlib.Core.Path.{_≡_, refl}
 use mathlib.Core.Logic.{_↔_, _⊎_, inl, inr}
 use mathlib.Core.Bool.{Bool, true, false, _&&_, _||_}
@@ -17,6 +17,8 @@ use Rattle.names.specs.declared.Letter.{Letter}
 use Rattle.names.specs.CardSet.{several, single}
 use Rattle.names.specs.Letters.{letterAt, kindAt, tagAt, known}
 use Rattle.names.proofs.KnownFunctions.{functions-unknown}
+use Rattle.automaton.specs.MostBehind.{mostBehind, keepsUp}
+use Rattle.automaton.proofs.KeepsUp.{fell-behind}
 use Rattle.channel.specs.Layout.{cardsWord, tasksWord, registersWord, cardsOf, tasksOf, registersOf, madeOf, takenOf, headOf, countOf, heldCountOf, placeOf, heldBlock, flightBlock, broadcastBlock}
 use Rattle.channel.specs.Letters.{addressed, fits}
 use Rattle.channel.specs.Begin.{sizesFit}
@@ -141,13 +143,13 @@ module _ (ws : List ℕ) where
   unfolding countsFit
   counts-fail i c e =
       let m : Bool = leb (takenOf ws i) (madeOf ws) in
-      let n : Bool = leb (madeOf ws) (takenOf ws i + 64) in
+      let n : Bool = keepsUp (madeOf ws) (takenOf ws i) in
       let h : Bool = ltb (headOf ws i) 48 in
       let k : Bool = leb (countOf ws i) 48 in
       and-fails (m && n && h && k) (leb (heldCountOf ws i) 16) e
       (λ e. and-fails (m && n && h) k e
       (λ e. and-fails (m && n) h e
-      (λ e. and-fails m n e (λ h. above i c (leb-false _ _ h)) (λ h. below i c (leb-false _ _ h)))
+      (λ e. and-fails m n e (λ h. above i c (leb-false _ _ h)) (λ h. below i c (fell-behind _ _ h)))
       (λ h. inbox-head i c (ltb-false _ _ h)))
       (λ h. inbox i c (leb-false _ _ h)))
       (λ h. held i c (leb-false _ _ h))
@@ -179,7 +181,7 @@ module _ (ws : List ℕ) where
           and-fails (taggedFits ws (flightBlock t)) (single (letterAt ws (flightBlock t) .to)) e
           (λ p. tagged-fails (flightBlock t) p (flight-message t h q) (flight-tag t h q)) (flight-destination t h q)
 
-  recent-fails : (k : ℕ) → k < madeOf ws → k < 64 → broadcastFits ws (madeOf ws - k) ≡ false → IllChannel ws
+  recent-fails : (k : ℕ) → k < madeOf ws → k < mostBehind → broadcastFits ws (madeOf ws - k) ≡ false → IllChannel ws
   unfolding broadcastFits
   recent-fails k m h e =
       let b : ℕ = broadcastBlock (madeOf ws - k) in
@@ -191,13 +193,13 @@ module _ (ws : List ℕ) where
   ill-found e =
       let a : Bool = each (cardsOf ws) (cardFits ws) in
       let b : Bool = each (tasksOf ws) (flightFits ws) in
-      let c : Bool = each (min (madeOf ws) 64) (recentFits ws) in
+      let c : Bool = each (min (madeOf ws) mostBehind) (recentFits ws) in
       and-fails (headFits ws && a && b) c e
       (λ e. and-fails (headFits ws && a) b e
       (λ e. and-fails (headFits ws) a e head-fails
       (λ h. let x = each-failing (cardsOf ws) (cardFits ws) h in card-fails (x .0) (x .1) (x .2)))
       (λ h. let x = each-failing (tasksOf ws) (flightFits ws) h in flight-fails (x .0) (x .1) (x .2)))
-      (λ h. let x = each-failing (min (madeOf ws) 64) (recentFits ws) h in
+      (λ h. let x = each-failing (min (madeOf ws) mostBehind) (recentFits ws) h in
       let y = recent-number ws (x .0) (x .1) in
       recent-fails (y .0) (y .1) (y .2) (rw (y .3) at (x .2)))
 

@@ -9,7 +9,7 @@ use lib.ListN.{length, getD}
 use Rattle.lists.specs.Listings.{listing, listing-snoc, listing-cons, listing-cong}
 use Rattle.names.specs.declared.Packet.{Packet}
 use Rattle.names.specs.Letters.{letterOf, letterAt, stored}
-use Rattle.channel.specs.Layout.{headWord, countWord, inboxBlock, heldBlock, headOf, countOf, placeOf}
+use Rattle.channel.specs.Layout.{channelWords, headWord, countWord, inboxBlock, heldBlock, headOf, countOf, placeOf}
 use Rattle.channel.specs.Inbox.{pushed, popped}
 use Rattle.channel.specs.Shows.{taggedAt, inboxOf}
 use Rattle.names.proofs.Blocks.{packet-cong, letter-cong}
@@ -32,11 +32,11 @@ ring-cong us ws i h n e = listing-cong _ _ n (λ k g. letter-cong us ws _ (λ a 
 
 -- ---- push
 
-module _ (ws : List ℕ) (i : ℕ) (l : Packet) (long : length ws ≡ 1364) (card : i < 8) (room : countOf ws i < 48) where
+module _ (ws : List ℕ) (i : ℕ) (l : Packet) (long : length ws ≡ channelWords) (card : i < 8) (room : countOf ws i < 48) where
   abbrev pub last : ℕ
   last = placeOf ws i (countOf ws i)
 
-  pub pushed-long : length (pushed ws i l) ≡ 1364
+  pub pushed-long : length (pushed ws i l) ≡ channelWords
   unfolding pushed
   pushed-long = joined-long ws (countWord i) last 48 l room ∙ long
 
@@ -78,8 +78,8 @@ module _ (ws : List ℕ) (i : ℕ) (l : Packet) (long : length ws ≡ 1364) (car
 
 -- ---- pop
 
-module _ (ws : List ℕ) (i : ℕ) (long : length ws ≡ 1364) (card : i < 8) (n : ℕ) (some-in : countOf ws i ≡ suc n) where
-  pub popped-long : length (popped ws i) ≡ 1364
+module _ (ws : List ℕ) (i : ℕ) (long : length ws ≡ channelWords) (card : i < 8) (n : ℕ) (some-in : countOf ws i ≡ suc n) where
+  pub popped-long : length (popped ws i) ≡ channelWords
   unfolding popped
   popped-long = gone-long ws (headWord i) (countWord i) 48 n some-in ∙ long
 

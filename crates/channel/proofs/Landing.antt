@@ -15,7 +15,7 @@ use Rattle.names.specs.declared.Letter.{Letter}
 use Rattle.names.specs.declared.Packet.{Packet}
 use Rattle.names.specs.Letters.{kindIn}
 use Rattle.automaton.specs.State.{Tagged, ChannelState, landing}
-use Rattle.channel.specs.Layout.{takenWord, countWord, heldWord, flightBlock, cardsOf, tasksOf, madeOf, countOf, heldCountOf}
+use Rattle.channel.specs.Layout.{channelWords, takenWord, countWord, heldWord, flightBlock, cardsOf, tasksOf, madeOf, countOf, heldCountOf}
 use Rattle.channel.specs.Inbox.{pushed}
 use Rattle.channel.specs.TakeSingle.{noFlight, flightPacket, flightTo, heldMore, landed}
 use Rattle.channel.specs.Shows.{letterMail, taggedAt, heldOf, flightOf, Shows}
@@ -108,7 +108,7 @@ module _ (ws : List ℕ) (w : ChannelState Letter) (z : Sized ws) (v : Shows ws 
     here : i < cardsOf us
     here = rw (vacated-cards ws t t16) card
 
-    long : length us ≡ 1364
+    long : length us ≡ channelWords
     long = length-set ws (flightBlock t) 0 ∙ z .long
 
     pub join-room : countOf ws i < 48 → countOf us i < 48

@@ -10,6 +10,7 @@ pub mod TakeBroadcastLaw
 pub mod HeldMore
 pub mod Landing
 pub mod TakeSingleLaw
+pub mod BroadcastRing
 pub mod Sending
 pub mod AnswerNumbers
 pub mod DispatchLaw

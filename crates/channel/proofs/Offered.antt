@@ -16,7 +16,7 @@ use Rattle.names.specs.declared.Card.{Card}
 use Rattle.names.specs.declared.Letter.{Letter}
 use Rattle.names.specs.Letters.{packetAt, letterAt}
 use Rattle.automaton.specs.State.{ChannelState}
-use Rattle.channel.specs.Layout.{broadcastBlock, cardsOf, registersOf, madeOf, takenOf, countOf, placeOf}
+use Rattle.channel.specs.Layout.{channelWords, broadcastBlock, cardsOf, registersOf, madeOf, takenOf, countOf, placeOf}
 use Rattle.channel.specs.Letters.{fits}
 use Rattle.channel.specs.Begin.{sizesFit, beginMemory}
 use Rattle.channel.specs.Inbox.{receiveAnswer}
@@ -47,7 +47,7 @@ sizes-fit cards tasks registers a b c d e f = and-intro (and-intro (and-intro (a
 
 -- ---- a well-sized memory
 
-module _ (ws : List ℕ) (w : ChannelState Letter) (long : length ws ≡ 1364) (ok : wellSized ws ≡ true) (v : Shows ws w) where
+module _ (ws : List ℕ) (w : ChannelState Letter) (long : length ws ≡ channelWords) (ok : wellSized ws ≡ true) (v : Shows ws w) where
   -- what receiving finds
   pub hands : (card : Card) → card .0 < cardsOf ws → receiveAnswer ws card ≡ handedUp (w .inbox (card .0))
   hands card h = receive-answer ws w (sized-of ws long (fit-of ws ok)) v card ∙ rw (lt-ltb (card .0) (cardsOf ws) h)
@@ -103,6 +103,6 @@ module _ (ws : List ℕ) (cards tasks registers : ℕ) (ok : sizesFit cards task
   unfolding memoryAfter
   begun-sized = channel-follows ws cards tasks registers ok [] .sized
 
-  pub begun-length : length (beginMemory ws cards tasks registers) ≡ 1364
+  pub begun-length : length (beginMemory ws cards tasks registers) ≡ channelWords
   unfolding memoryAfter
   begun-length = channel-follows ws cards tasks registers ok [] .long

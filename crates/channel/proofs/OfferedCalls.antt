@@ -18,7 +18,7 @@ use Rattle.channel.specs.declared.Received.the-variants.{Got}
 use Rattle.automaton.specs.Mail.{Mail}
 use Rattle.automaton.specs.State.{ChannelState, ChannelAction, dispatch, takeBroadcast, takeSingle, deliver, channelStep}
 use Rattle.automaton.specs.Refusals.{dispatchRefusal, takeRefusal, singleRefusal, channelRefusal}
-use Rattle.channel.specs.Layout.{cardsOf, tasksOf}
+use Rattle.channel.specs.Layout.{channelWords, cardsOf, tasksOf}
 use Rattle.channel.specs.Letters.{fits}
 use Rattle.channel.specs.Answers.{answerNumber, receivedNumber}
 use Rattle.channel.specs.Inbox.{receiveAnswer, receiveMemory}
@@ -39,7 +39,7 @@ pub record Passes (ws : List ℕ) (w : ChannelState Letter) (x : ChannelAction L
   pub shows : n ≡ 0 → Shows us (channelStep letterMail w x)
   pub untouched : n ≢ 0 → us ≡ ws
   pub sized : wellSized us ≡ true
-  pub long : length us ≡ 1364
+  pub long : length us ≡ channelWords
   pub sizes : SameSizes us ws
 
 fine : (r : ℕ) → orElse r 0 ≡ r
@@ -49,7 +49,7 @@ fine r = go (eqb r 0) refl
     go true e = sym (eqb-true r 0 e)
     go false e = refl
 
-module _ (ws : List ℕ) (w : ChannelState Letter) (long : length ws ≡ 1364) (ok : wellSized ws ≡ true) (v : Shows ws w) where
+module _ (ws : List ℕ) (w : ChannelState Letter) (long : length ws ≡ channelWords) (ok : wellSized ws ≡ true) (v : Shows ws w) where
   passes : (c : Call) → absent ws (actionOf c) ≡ 0 → unfit ws (actionOf c) ≡ 0 → Passes ws w (actionOf c) (callNumber ws c) (callMemory ws c)
   unfolding callRefusal
   passes c there fit = record {

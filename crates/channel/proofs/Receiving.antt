@@ -13,7 +13,7 @@ use Rattle.names.specs.declared.Letter.{Letter}
 use Rattle.channel.specs.declared.Received.the-variants.{Got, NoSuchCard}
 use Rattle.automaton.specs.State.{ChannelState, delivering}
 use Rattle.automaton.specs.Refusals.{receiveRefusal}
-use Rattle.channel.specs.Layout.{inboxBlock, takenWord, heldWord, cardsOf, headOf, countOf, heldCountOf}
+use Rattle.channel.specs.Layout.{channelWords, inboxBlock, takenWord, heldWord, cardsOf, headOf, countOf, heldCountOf}
 use Rattle.names.specs.Letters.{letterAt}
 use Rattle.channel.specs.Answers.{receivedNumber}
 use Rattle.channel.specs.Inbox.{popped, gotOf, receiveAnswer, receiveMemory}
@@ -29,7 +29,7 @@ unfolding inboxOf listing
 inbox-none ws i e = rw e
 
 -- a popped inbox: only card i's words change
-pub popped-outside : (ws : List ℕ) (i n : ℕ) → length ws ≡ 1364 → i < 8 → countOf ws i ≡ suc n → Outside i (popped ws i) ws
+pub popped-outside : (ws : List ℕ) (i n : ℕ) → length ws ≡ channelWords → i < 8 → countOf ws i ≡ suc n → Outside i (popped ws i) ws
 popped-outside ws i n l c e =
     let p = popped-word ws i l c n e in
     record { long = popped-long ws i l c n e; low = λ a h. p a (omega arith) (omega arith); high = λ a h. p a (omega arith) (omega arith) }

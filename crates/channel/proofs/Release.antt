@@ -15,7 +15,7 @@ use Rattle.names.specs.declared.Letter.{Letter}
 use Rattle.names.specs.declared.Packet.{Packet}
 use Rattle.automaton.specs.State.{Tagged, kept, released}
 use Rattle.names.specs.Letters.{packetAt, tagAt, marked}
-use Rattle.channel.specs.Layout.{takenWord, headWord, countWord, heldWord, inboxBlock, heldBlock, headOf, countOf, heldCountOf, placeOf}
+use Rattle.channel.specs.Layout.{channelWords, takenWord, headWord, countWord, heldWord, inboxBlock, heldBlock, headOf, countOf, heldCountOf, placeOf}
 use Rattle.channel.specs.Inbox.{pushed}
 use Rattle.channel.specs.TakeBroadcast.{Sweep, sweeps, swept, sweptWords, sweptKept, releasedWords}
 use Rattle.channel.specs.Shows.{taggedAt, inboxOf, heldOf}
@@ -39,7 +39,7 @@ fewer ws i n k (suc j) =
 module _ (ws : List ℕ) (i n : ℕ) (card : i < 8) where
   -- after the first k held messages
   pub record Swept (k : ℕ) (s : Sweep) : Type 0 where
-    pub long : length (s .words) ≡ 1364
+    pub long : length (s .words) ≡ channelWords
     pub few : s .kept ≤ k
     pub stay : heldFirst (s .words) i (s .kept) ≡ kept n (heldFirst ws i k)
     pub rest : (m : ℕ) → k ≤ m → m < 16 → (q : ℕ) → q < 3 → getD (s .words) (heldBlock i m + q) 0 ≡ getD ws (heldBlock i m + q) 0
@@ -180,7 +180,7 @@ module _ (ws : List ℕ) (i n : ℕ) (card : i < 8) (k : ℕ) (s : Sweep) (h : k
       go true e = joins e
       go false e = stays e
 
-pub sweeps-swept : (ws : List ℕ) (i n : ℕ) (card : i < 8) → length ws ≡ 1364 → (k j : ℕ) → k + j ≤ 16
+pub sweeps-swept : (ws : List ℕ) (i n : ℕ) (card : i < 8) → length ws ≡ channelWords → (k j : ℕ) → k + j ≤ 16
     → countOf ws i + length (released n (heldFirst ws i (k + j))) ≤ 48 → Swept ws i n card k (sweeps i n k ws)
 unfolding sweeps turns listing
 sweeps-swept ws i n card long zero j h room = record {
@@ -200,7 +200,7 @@ sweeps-swept ws i n card long (suc k) j h room =
 
 -- ---- what a release leaves
 
-module _ (ws : List ℕ) (i n : ℕ) (card : i < 8) (long : length ws ≡ 1364) (few : heldCountOf ws i ≤ 16)
+module _ (ws : List ℕ) (i n : ℕ) (card : i < 8) (long : length ws ≡ channelWords) (few : heldCountOf ws i ≤ 16)
     (room : countOf ws i + length (released n (heldOf ws i)) ≤ 48) where
   abbrev pub end : Sweep
   end = sweeps i n (heldCountOf ws i) ws
@@ -216,7 +216,7 @@ module _ (ws : List ℕ) (i n : ℕ) (card : i < 8) (long : length ws ≡ 1364) 
   pub release-word : (a : ℕ) → a ≢ heldWord i → getD (releasedWords ws i n) a 0 ≡ getD (end .words) a 0
   release-word a h = rw released-is (getD-set-other (end .words) (heldWord i) a (end .kept) 0 h)
 
-  pub release-long : length (releasedWords ws i n) ≡ 1364
+  pub release-long : length (releasedWords ws i n) ≡ channelWords
   release-long = rw released-is (length-set (end .words) (heldWord i) (end .kept) ∙ swept-all .long)
 
   pub release-low : (a : ℕ) → a < countWord i → getD (releasedWords ws i n) a 0 ≡ getD ws a 0

@@ -30,7 +30,7 @@ use Rattle.automaton.specs.Refusals.{otherwise}
 use Rattle.lists.specs.Tests.{clash, and-snd}
 use borrow.Author.Tests.{eqb-true, ltb-true}
 use native.Mathlib.Omega.{arith}
-use Rattle.channel.specs.Layout.{cardsOf, takenOf, takenBy}
+use Rattle.channel.specs.Layout.{channelWords, cardsOf, takenOf, takenBy}
 
 -- refusals look at nothing of a memory but its sizes
 refusal-sizes : (us ms : List ℕ) → SameSizes us ms → (w : ChannelState Letter) (x : ChannelAction Letter) → callRefusal us w x ≡ callRefusal ms w x
@@ -65,11 +65,11 @@ to-cards ms i l r j g = go (several (l .to)) refl g
 -- where the run stands
 record Upto (ms us : List ℕ) (w : ChannelState Letter) : Type 0 where
   pub sized : wellSized us ≡ true
-  pub long : length us ≡ 1364
+  pub long : length us ≡ channelWords
   pub sizes : SameSizes us ms
   pub shows : Shows us w
 
-module _ (ms : List ℕ) (long : length ms ≡ 1364) (ok : wellSized ms ≡ true) (v : Shows ms (calls (letters ms) [])) where
+module _ (ms : List ℕ) (long : length ms ≡ channelWords) (ok : wellSized ms ≡ true) (v : Shows ms (calls (letters ms) [])) where
   upto : (cs : List Call) → Upto ms (memoryAfter ms cs) (stateAfter ms cs)
   unfolding memoryAfter
   upto [] = record { sized = ok; long = long; sizes = record { cards = refl; tasks = refl; registers = refl }; shows = v }

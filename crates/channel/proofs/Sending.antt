@@ -1,5 +1,5 @@
 -- A message is dispatched (step 6): what the words show afterwards.
-use Prim.Native.Nat.{ℕ, _+_, _*_, _%_, _<_, _≤_}
+use Prim.Native.Nat.{ℕ, _+_, _*_, _<_, _≤_}
 use mathlib.Core.Path.{_≡_, sym, ap, _∙_}
 use mathlib.Core.Bool.{true, false, cond}
 use mathlib.Core.Logic.{_≢_}
@@ -15,13 +15,16 @@ use Rattle.lists.specs.Tests.{eqb-refl, eqb-not}
 use Rattle.lists.specs.Places.{nth, nth-last, nth-old}
 use Rattle.names.specs.declared.Letter.{Letter}
 use Rattle.automaton.specs.State.{ChannelState, dispatching}
+use Rattle.automaton.specs.MostBehind.{mostBehind}
 use Rattle.channel.specs.Layout.{takenWord, madeWord, flightBlock, broadcastBlock, cardsOf, tasksOf, madeOf, takenOf}
 use Rattle.names.specs.Letters.{kindIn, kindOf, packetOf, Packs, letterAt, kindAt, stored, marked}
 use Rattle.channel.specs.TakeSingle.{noFlight}
 use Rattle.channel.specs.Shows.{letterMail, flightOf, Shows}
+use Rattle.channel.specs.BroadcastRing.{Apart}
 use Rattle.names.proofs.Blocks.{kind-some, kind-carried, letter-back, word-other, letter-cong, letter-same, marked-other, marked-word, marked-letter, mark-same, length-stored}
 use Rattle.channel.proofs.SizedFacts.{Sized, cards-most, tasks-most, cards-words, tasks-words}
 use Rattle.channel.proofs.Frame.{inbox-words, held-words, sent-words, flight-words}
+use Rattle.channel.proofs.BroadcastRing.{ring-apart}
 
 -- ---- one destination: in flight
 
@@ -120,14 +123,14 @@ module _ (ws : List ℕ) (w : ChannelState Letter) (z : Sized ws) (v : Shows ws 
   cast-letter = letter-cong cast written slot cast-block ∙ letter-same ws slot (packetOf l) (omega (arith, z .long)) ∙ letter-back l packs
 
   -- the other broadcasts that are kept
-  pub cast-others : (k : ℕ) → (k + 1) % 64 ≢ n % 64 → letterAt cast (broadcastBlock (k + 1)) ≡ letterAt ws (broadcastBlock (k + 1))
-  cast-others k h = sent-words cast ws (k + 1) (λ a p q. cast-word a (omega arith) (λ b u. omega arith))
+  pub cast-others : (k : ℕ) → Apart (broadcastBlock (k + 1)) slot → letterAt cast (broadcastBlock (k + 1)) ≡ letterAt ws (broadcastBlock (k + 1))
+  cast-others k h = sent-words cast ws (k + 1) (λ a p q. cast-word a (omega arith) (h a p q))
 
-  sents : (k : ℕ) → k < n → n ≤ k + 64 → nth (w .sent ++ (l ∷ [])) k ≡ some (letterAt cast (broadcastBlock (k + 1)))
+  sents : (k : ℕ) → k < n → n ≤ k + mostBehind → nth (w .sent ++ (l ∷ [])) k ≡ some (letterAt cast (broadcastBlock (k + 1)))
   sents k m q = go (decLt k (madeOf ws))
     where
       go : Dec (k < madeOf ws) → nth (w .sent ++ (l ∷ [])) k ≡ some (letterAt cast (broadcastBlock (k + 1)))
-      go (yes h) = nth-old (w .sent) l k (omega (arith, v .made=)) ∙ v .sent= k h (omega arith) ∙ ap some (sym (cast-others k (omega arith)))
+      go (yes h) = nth-old (w .sent) l k (omega (arith, v .made=)) ∙ v .sent= k h (omega arith) ∙ ap some (sym (cast-others k (ring-apart (k + 1) n (omega arith) (omega arith))))
       go (no h) =
           let e : k ≡ madeOf ws = omega arith in
           rw (e, cast-letter, ← (v .made=)) (nth-last (w .sent) l)

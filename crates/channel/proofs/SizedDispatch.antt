@@ -15,8 +15,9 @@ use Rattle.lists.specs.Every.{each-at}
 use Rattle.names.specs.declared.Card.{Card}
 use Rattle.names.specs.declared.Message.{Message}
 use Rattle.names.specs.declared.Letter.{Letter}
+use Rattle.automaton.specs.MostBehind.{mostBehind}
 use Rattle.channel.specs.declared.Answer.the-variants.{Done, IllSized, FarBehind}
-use Rattle.channel.specs.Layout.{cardsWord, tasksWord, registersWord, madeWord, takenWord, flightBlock, broadcastBlock, cardsOf, tasksOf, madeOf, takenOf}
+use Rattle.channel.specs.Layout.{channelWords, cardsWord, tasksWord, registersWord, madeWord, takenWord, flightBlock, broadcastBlock, cardsOf, tasksOf, madeOf, takenOf}
 use Rattle.names.specs.CardSet.{several}
 use Rattle.names.specs.Letters.{packetOf, letterAt, stored, marked}
 use Rattle.channel.specs.Letters.{fits}
@@ -31,6 +32,7 @@ use Rattle.channel.proofs.AnswerNumbers.{picked}
 use Rattle.names.proofs.CardSets.{single-of}
 use Rattle.channel.proofs.LetterFits.{fits-is, fits-packs, carried-fits}
 use Rattle.channel.specs.MemoryCalls.{SameSizes}
+use Rattle.channel.proofs.BroadcastRing.{ring-apart}
 use Rattle.channel.proofs.WellSizedParts.{CardFit, Fit, same-cards, same-tasks, packet-sizes, flight-same, broadcast-same, card-same}
 use Rattle.channel.proofs.FitQueues.{put-fits, put-tagged}
 use Rattle.channel.proofs.FitKept.{Kept, unchanged, head-same}
@@ -41,7 +43,7 @@ or-intro false e = e
 
 -- ---- in flight
 
-module _ (ws : List ℕ) (long : length ws ≡ 1364) (f : Fit ws) (l : Letter) (tag : ℕ) (small : tag ≤ 65535) (g : fits ws l ≡ true)
+module _ (ws : List ℕ) (long : length ws ≡ channelWords) (f : Fit ws) (l : Letter) (tag : ℕ) (small : tag ≤ 65535) (g : fits ws l ≡ true)
     (alone : several (l .to) ≡ false) where
   abbrev t : ℕ
   t = l .message .task .0
@@ -90,7 +92,7 @@ module _ (ws : List ℕ) (long : length ws ≡ 1364) (f : Fit ws) (l : Letter) (
 
 -- ---- a broadcast more
 
-module _ (ws : List ℕ) (long : length ws ≡ 1364) (f : Fit ws) (l : Letter) (g : fits ws l ≡ true) (many : several (l .to) ≡ true)
+module _ (ws : List ℕ) (long : length ws ≡ channelWords) (f : Fit ws) (l : Letter) (g : fits ws l ≡ true) (many : several (l .to) ≡ true)
     (close : near ws ≡ true) (few : madeOf ws < 65535) where
   abbrev n : ℕ
   n = madeOf ws + 1
@@ -127,10 +129,10 @@ module _ (ws : List ℕ) (long : length ws ≡ 1364) (f : Fit ws) (l : Letter) (
       λ a p q. let b = cards-most ws in cword a (omega arith) (λ k h. omega arith) in
       let x = card-same cs ws csizes (madeOf ws) j e (f .card j c) in
       let t : takenOf cs j ≡ takenOf ws j = e (takenWord j) (omega arith) (omega arith) in
-      let o = leb-true (madeOf ws + 1) (takenOf ws j + 64) (each-at (cardsOf ws) (nearAt ws) close j c) in
+      let o : nearAt ws j ≡ true = each-at (cardsOf ws) (nearAt ws) close j c in
       record {
         behind = omega (arith, x .behind);
-        near = omega arith;
+        near = omega (arith, leb-true);
         head = x .head;
         count = x .count;
         held = x .held;
@@ -138,7 +140,7 @@ module _ (ws : List ℕ) (long : length ws ≡ 1364) (f : Fit ws) (l : Letter) (
         helds = x .helds;
       }
 
-  recent-fit : (k : ℕ) → k < n → k < 64 → broadcastFits cs (n - k) ≡ true
+  recent-fit : (k : ℕ) → k < n → k < mostBehind → broadcastFits cs (n - k) ≡ true
   unfolding broadcastFits
   recent-fit zero p h =
       let w : slot + 2 ≤ length ws = omega arith in
@@ -149,7 +151,7 @@ module _ (ws : List ℕ) (long : length ws ≡ 1364) (f : Fit ws) (l : Letter) (
       rw e (and-intro (put-fits cs cs ws slot (packetOf l) fu w v) (rw y many))
   recent-fit (suc k) p h =
       let e : n - suc k ≡ madeOf ws - k = omega arith in
-      rw e (broadcast-same cs ws csizes (madeOf ws - k) (λ a u v. cword a (omega arith) (λ b r. omega arith)) ∙ f .recent k (omega arith) (omega arith))
+      rw e (broadcast-same cs ws csizes (madeOf ws - k) (λ a u v. cword a (omega arith) (ring-apart (madeOf ws - k) n (omega arith) (omega arith) a u v)) ∙ f .recent k (omega arith) (omega arith))
 
   pub cast-fit : Kept cs ws
   cast-fit = record {
@@ -166,7 +168,7 @@ module _ (ws : List ℕ) (long : length ws ≡ 1364) (f : Fit ws) (l : Letter) (
 
 -- ---- step 6
 
-module _ (ws : List ℕ) (long : length ws ≡ 1364) (f : Fit ws) where
+module _ (ws : List ℕ) (long : length ws ≡ channelWords) (f : Fit ws) where
   -- a card's number of broadcasts taken, which becomes a tag
   taken-small : (i : ℕ) → i < cardsOf ws → takenOf ws i ≤ 65535
   unfolding headFits

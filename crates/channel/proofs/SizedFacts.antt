@@ -5,7 +5,8 @@ use mathlib.Core.Bool.{true, false}
 use mathlib.Core.List.{List}
 use native.Mathlib.Omega.{arith}
 use lib.ListN.{length, getD}
-use Rattle.channel.specs.Layout.{cardsOf, tasksOf, registersOf, cardsWord, tasksWord, registersWord, madeOf, takenOf, countOf, heldCountOf, flightBlock}
+use Rattle.automaton.specs.MostBehind.{mostBehind}
+use Rattle.channel.specs.Layout.{channelWords, cardsOf, tasksOf, registersOf, cardsWord, tasksWord, registersWord, madeOf, takenOf, countOf, heldCountOf, flightBlock}
 use Rattle.names.specs.CardSet.{single, soleOf}
 use Rattle.names.specs.Letters.{letterAt}
 use Rattle.channel.specs.TakeSingle.{noFlight}
@@ -35,9 +36,9 @@ unfolding registersOf
 registers-words us ws e = rw e
 
 pub record Sized (ws : List ℕ) : Type 0 where
-  pub long : length ws ≡ 1364
+  pub long : length ws ≡ channelWords
   pub counts : (i : ℕ) → i < cardsOf ws → countOf ws i ≤ 48
   pub helds : (i : ℕ) → i < cardsOf ws → heldCountOf ws i ≤ 16
-  pub near : (i : ℕ) → i < cardsOf ws → (takenOf ws i ≤ madeOf ws) × (madeOf ws ≤ takenOf ws i + 64)
+  pub near : (i : ℕ) → i < cardsOf ws → (takenOf ws i ≤ madeOf ws) × (madeOf ws ≤ takenOf ws i + mostBehind)
   pub flights : (t : ℕ) → t < tasksOf ws → noFlight ws t ≡ false
       → (single (letterAt ws (flightBlock t) .to) ≡ true) × (soleOf (letterAt ws (flightBlock t) .to) < cardsOf ws)

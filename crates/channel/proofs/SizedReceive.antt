@@ -8,7 +8,7 @@ use borrow.Author.Tests.{ltb-true}
 use lib.Dec.{ltb}
 use lib.ListN.{length}
 use Rattle.names.specs.declared.Card.{Card}
-use Rattle.channel.specs.Layout.{takenWord, heldWord, cardsOf, takenOf, countOf, heldCountOf}
+use Rattle.channel.specs.Layout.{channelWords, takenWord, heldWord, cardsOf, takenOf, countOf, heldCountOf}
 use Rattle.channel.specs.Inbox.{popped, receiveMemory}
 use Rattle.channel.proofs.InboxRing.{popped-word, popped-long, popped-count, popped-head}
 use Rattle.channel.proofs.SizedFacts.{cards-most}
@@ -17,7 +17,7 @@ use Rattle.channel.proofs.WellSizedParts.{Fit}
 use Rattle.channel.proofs.FitQueues.{pop-sizes, pop-box, held-same}
 use Rattle.channel.proofs.FitKept.{Kept, unchanged, card-keeps}
 
-module _ (ws : List ℕ) (long : length ws ≡ 1364) (f : Fit ws) (card : Card) where
+module _ (ws : List ℕ) (long : length ws ≡ channelWords) (f : Fit ws) (card : Card) where
   abbrev i : ℕ
   i = card .0
 

@@ -13,7 +13,8 @@ use Rattle.names.specs.declared.Card.{Card}
 use Rattle.names.specs.declared.Packet.{Packet}
 use Rattle.names.specs.Letters.{letterOf}
 use Rattle.automaton.specs.State.{released}
-use Rattle.channel.specs.Layout.{takenWord, headWord, countWord, heldWord, cardsOf, madeOf, takenOf, headOf, countOf, heldCountOf}
+use Rattle.automaton.specs.MostBehind.{mostBehind}
+use Rattle.channel.specs.Layout.{channelWords, takenWord, headWord, countWord, heldWord, cardsOf, madeOf, takenOf, headOf, countOf, heldCountOf}
 use Rattle.channel.specs.Inbox.{pushed}
 use Rattle.channel.specs.Answers.{isDone}
 use Rattle.channel.specs.TakeBroadcast.{releasedWords, joined, nextPacket, nextLetter, nextThere, takeAnswer, takeMemory}
@@ -35,12 +36,12 @@ pub next-fits : (ws : List ℕ) → Fit ws → (i : ℕ) → i < cardsOf ws → 
 unfolding broadcastFits
 next-fits ws f i c more =
     let x = f .card i c in
-    let near : madeOf ws ≤ takenOf ws i + 64 = x .near in
+    let near : madeOf ws ≤ takenOf ws i + mostBehind = x .near in
     let e : madeOf ws - (madeOf ws - (takenOf ws i + 1)) ≡ takenOf ws i + 1 = omega arith in
     let b = rw e at (f .recent (madeOf ws - (takenOf ws i + 1)) (omega arith) (omega arith)) in
     and-fst (packetFits ws (nextPacket ws i)) (several (nextLetter ws i .to)) b
 
-module _ (ws : List ℕ) (i n : ℕ) (l : Packet) (card : i < 8) (whole : length ws ≡ 1364) (small : heldCountOf ws i ≤ 16)
+module _ (ws : List ℕ) (i n : ℕ) (l : Packet) (card : i < 8) (whole : length ws ≡ channelWords) (small : heldCountOf ws i ≤ 16)
     (b : BoxFit ws i) (h : HeldFit ws i (heldCountOf ws i)) (f : packetFits ws l ≡ true) where
   abbrev vs : List ℕ
   vs = numbered ws i n l card whole small
@@ -64,7 +65,7 @@ module _ (ws : List ℕ) (i n : ℕ) (l : Packet) (card : i < 8) (whole : length
     pub fit : HeldFit us i (heldCountOf us i)
     pub head : headOf us i ≡ headOf ws i
 
-  finish : (us : List ℕ) → length us ≡ 1364 → heldCountOf us i ≡ heldCountOf ws i → heldOf us i ≡ heldOf ws i → headOf us i ≡ headOf ws i
+  finish : (us : List ℕ) → length us ≡ channelWords → heldCountOf us i ≡ heldCountOf ws i → heldOf us i ≡ heldOf ws i → headOf us i ≡ headOf ws i
       → countOf us i + length (released n (heldOf ws i)) ≤ 48 → BoxFit us i → HeldFit us i (heldCountOf us i) → After (releasedWords us i n)
   finish us long few held head room x y =
       let g : heldCountOf us i ≤ 16 = omega arith in
@@ -98,7 +99,7 @@ module _ (ws : List ℕ) (i n : ℕ) (l : Packet) (card : i < 8) (whole : length
       let e = word (countWord i) (omega arith) in
       finish vs (g .long) (g .few) (g .held) (word (headWord i) (omega arith)) (omega arith) one-box one-fit
 
-module _ (ws : List ℕ) (long : length ws ≡ 1364) (f : Fit ws) (card : Card) where
+module _ (ws : List ℕ) (long : length ws ≡ channelWords) (f : Fit ws) (card : Card) where
   abbrev i : ℕ
   i = card .0
 
@@ -109,7 +110,7 @@ module _ (ws : List ℕ) (long : length ws ≡ 1364) (f : Fit ws) (card : Card) 
       let us : List ℕ = joined ws i n l (nextThere ws i) in
       let c8 : i < 8 = omega (arith, cards-most ws, k .there) in
       let x = f .card i (k .there) in
-      let near : madeOf ws ≤ takenOf ws i + 64 = x .near in
+      let near : madeOf ws ≤ takenOf ws i + mostBehind = x .near in
       let more : takenOf ws i < madeOf ws = k .more in
       let j = joined-shows ws i n l c8 long (x .held) (nextThere ws i) (k .room) in
       let g = after ws i n l c8 long (x .held) (x .inbox) (x .helds) (next-fits ws f i (k .there) (k .more)) (nextThere ws i) (k .room) in

@@ -10,7 +10,7 @@ use native.Mathlib.Omega.{arith}
 use lib.ListN.{length, getD, length-set}
 use Rattle.names.specs.declared.Task.{Task}
 use Rattle.names.specs.declared.Packet.{Packet}
-use Rattle.channel.specs.Layout.{takenWord, headWord, countWord, heldWord, flightBlock, cardsOf, tasksOf, madeOf, takenOf, headOf, countOf, heldCountOf}
+use Rattle.channel.specs.Layout.{channelWords, takenWord, headWord, countWord, heldWord, flightBlock, cardsOf, tasksOf, madeOf, takenOf, headOf, countOf, heldCountOf}
 use Rattle.channel.specs.Inbox.{pushed}
 use Rattle.channel.specs.Answers.{isDone}
 use Rattle.channel.specs.TakeSingle.{flightPacket, flightTag, flightTo, joinsAt, heldMore, landed, singleAnswer, singleMemory}
@@ -29,7 +29,7 @@ use Rattle.channel.proofs.FitKept.{Kept, unchanged, FlightPacket, fligh
 
 -- ---- task t's slot made empty
 
-module _ (ws : List ℕ) (long : length ws ≡ 1364) (f : Fit ws) (t : ℕ) (small : t < 16) where
+module _ (ws : List ℕ) (long : length ws ≡ channelWords) (f : Fit ws) (t : ℕ) (small : t < 16) where
   abbrev vs : List ℕ
   vs = vacated ws t small
 
@@ -39,7 +39,7 @@ module _ (ws : List ℕ) (long : length ws ≡ 1364) (f : Fit ws) (t : ℕ) (sma
   pub vacated-sizes : SameSizes vs ws
   vacated-sizes = record { cards = word 0 (omega arith); tasks = word 1 (omega arith); registers = word 2 (omega arith) }
 
-  pub vacated-long : length vs ≡ 1364
+  pub vacated-long : length vs ≡ channelWords
   vacated-long = length-set ws (flightBlock t) 0 ∙ long
 
   slot-fit : (d : ℕ) → d < tasksOf ws → flightFits vs d ≡ true
@@ -63,7 +63,7 @@ module _ (ws : List ℕ) (long : length ws ≡ 1364) (f : Fit ws) (t : ℕ) (sma
 
 -- ---- then the message joins card i's inbox, or is held there
 
-module _ (ws : List ℕ) (long : length ws ≡ 1364) (f : Fit ws) (t : ℕ) (k : Landed ws t) where
+module _ (ws : List ℕ) (long : length ws ≡ channelWords) (f : Fit ws) (t : ℕ) (k : Landed ws t) where
   t16 : t < 16
   t16 = omega (arith, tasks-most ws, k .present)
 
@@ -82,7 +82,7 @@ module _ (ws : List ℕ) (long : length ws ≡ 1364) (f : Fit ws) (t : ℕ) (k :
   c8 : i < 8
   c8 = omega (arith, cards-most ws, letter .present)
 
-  whole : length us ≡ 1364
+  whole : length us ≡ channelWords
   whole = vacated-long ws long f t t16
 
   fit : Fit us
@@ -153,7 +153,7 @@ module _ (ws : List ℕ) (long : length ws ≡ 1364) (f : Fit ws) (t : ℕ) (k :
   landed-fit true p q = joins-fit p
   landed-fit false p q = waits-fit q
 
-module _ (ws : List ℕ) (long : length ws ≡ 1364) (f : Fit ws) (task : Task) where
+module _ (ws : List ℕ) (long : length ws ≡ channelWords) (f : Fit ws) (task : Task) where
   pub single-keeps : Kept (singleMemory ws task) ws
   unfolding singleMemory
   single-keeps = go (isDone (singleAnswer ws task)) refl

@@ -17,7 +17,7 @@ use Rattle.names.specs.declared.Letter.{Letter}
 use Rattle.names.specs.declared.Packet.{Packet}
 use Rattle.names.specs.Letters.{letterOf}
 use Rattle.automaton.specs.State.{ChannelState, kept, released, taking}
-use Rattle.channel.specs.Layout.{takenWord, headWord, countWord, heldWord, cardsOf, madeOf, takenOf, headOf, countOf, heldCountOf, placeOf}
+use Rattle.channel.specs.Layout.{channelWords, takenWord, headWord, countWord, heldWord, cardsOf, madeOf, takenOf, headOf, countOf, heldCountOf, placeOf}
 use Rattle.channel.specs.Inbox.{pushed}
 use Rattle.channel.specs.TakeBroadcast.{releasedWords, joined, nextPacket, nextLetter, nextThere}
 use Rattle.channel.specs.Shows.{letterMail, inboxOf, heldOf, Shows}
@@ -26,7 +26,7 @@ use Rattle.channel.proofs.Release.{release-long, release-low, release-h
 use Rattle.channel.proofs.SizedFacts.{Sized, cards-most}
 use Rattle.channel.proofs.Frame.{Outside, card-shows}
 
-module _ (ws : List ℕ) (i n : ℕ) (l : Packet) (card : i < 8) (whole : length ws ≡ 1364) (small : heldCountOf ws i ≤ 16) where
+module _ (ws : List ℕ) (i n : ℕ) (l : Packet) (card : i < 8) (whole : length ws ≡ channelWords) (small : heldCountOf ws i ≤ 16) where
   -- the number taken, first
   abbrev pub numbered : List ℕ
   numbered = set ws (takenWord i) n
@@ -34,7 +34,7 @@ module _ (ws : List ℕ) (i n : ℕ) (l : Packet) (card : i < 8) (whole : length
   pub one-word : (a : ℕ) → a ≢ takenWord i → getD numbered a 0 ≡ getD ws a 0
   one-word a h = getD-set-other ws (takenWord i) a n 0 h
 
-  pub one-long : length numbered ≡ 1364
+  pub one-long : length numbered ≡ channelWords
   one-long = length-set ws (takenWord i) n ∙ whole
 
   one-inbox : inboxOf numbered i ≡ inboxOf ws i
@@ -58,7 +58,7 @@ module _ (ws : List ℕ) (i n : ℕ) (l : Packet) (card : i < 8) (whole : length
 
   -- before the release
   pub record Begun (there : Bool) (us : List ℕ) : Type 0 where
-    pub long : length us ≡ 1364
+    pub long : length us ≡ channelWords
     pub low : (a : ℕ) → a < takenWord i → getD us a 0 ≡ getD ws a 0
     pub high : (a : ℕ) → takenWord (i + 1) ≤ a → getD us a 0 ≡ getD ws a 0
     pub taken : takenOf us i ≡ n

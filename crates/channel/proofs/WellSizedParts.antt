@@ -13,6 +13,8 @@ use Rattle.lists.specs.Conjunctions.{and-three, and-four, and-five}
 use Rattle.lists.specs.Every.{each, each-at, each-of}
 use Rattle.names.specs.declared.Letter.{Letter}
 use Rattle.names.specs.declared.Packet.{Packet}
+use Rattle.automaton.specs.MostBehind.{mostBehind, keepsUp}
+use Rattle.automaton.proofs.KeepsUp.{keeps-up, kept-up}
 use Rattle.channel.specs.Layout.{takenWord, headWord, countWord, heldWord, heldBlock, flightBlock, broadcastBlock, cardsOf, tasksOf, madeOf, takenOf, headOf, countOf, heldCountOf, placeOf}
 use Rattle.names.specs.Letters.{letterOf, packetAt, letterAt}
 use Rattle.channel.specs.Letters.{addressed, fits}
@@ -25,7 +27,7 @@ use Rattle.channel.proofs.SizedFacts.{cards-words, tasks-words, registe
 -- card i's part, where m broadcasts are made
 pub record CardFit (ws : List ℕ) (m i : ℕ) : Type 0 where
   pub behind : takenOf ws i ≤ m
-  pub near : m ≤ takenOf ws i + 64
+  pub near : m ≤ takenOf ws i + mostBehind
   pub head : headOf ws i < 48
   pub count : countOf ws i ≤ 48
   pub held : heldCountOf ws i ≤ 16
@@ -36,14 +38,14 @@ pub record Fit (ws : List ℕ) : Type 0 where
   pub sizes : headFits ws ≡ true
   pub card : (i : ℕ) → i < cardsOf ws → CardFit ws (madeOf ws) i
   pub flight : (t : ℕ) → t < tasksOf ws → flightFits ws t ≡ true
-  pub recent : (k : ℕ) → k < madeOf ws → k < 64 → broadcastFits ws (madeOf ws - k) ≡ true
+  pub recent : (k : ℕ) → k < madeOf ws → k < mostBehind → broadcastFits ws (madeOf ws - k) ≡ true
 
 card-fit : (ws : List ℕ) (i : ℕ) → cardFits ws i ≡ true → CardFit ws (madeOf ws) i
 unfolding cardFits countsFit
 card-fit ws i e =
     let u = and-three (countsFit ws i) (each (min (countOf ws i) 48) (inboxFits ws i)) (each (min (heldCountOf ws i) 16) (heldFits ws i)) e in
     let a =
-    and-five (leb (takenOf ws i) (madeOf ws)) (leb (madeOf ws) (takenOf ws i + 64)) (ltb (headOf ws i) 48) (leb (countOf ws i) 48) (leb (heldCountOf ws i) 16)
+    and-five (leb (takenOf ws i) (madeOf ws)) (keepsUp (madeOf ws) (takenOf ws i)) (ltb (headOf ws i) 48) (leb (countOf ws i) 48) (leb (heldCountOf ws i) 16)
     (u .0) in
     let c : countOf ws i ≤ 48 = leb-true _ _ (a .3) in
     let h : heldCountOf ws i ≤ 16 = leb-true _ _ (a .4) in
@@ -51,7 +53,7 @@ card-fit ws i e =
     let mh : min (heldCountOf ws i) 16 ≡ heldCountOf ws i = omega arith in
     record {
       behind = leb-true _ _ (a .0);
-      near = leb-true _ _ (a .1);
+      near = kept-up _ _ (a .1);
       head = ltb-true _ _ (a .2);
       count = c;
       held = h;
@@ -65,38 +67,38 @@ fit-card ws i f =
     let mc : min (countOf ws i) 48 ≡ countOf ws i = omega (arith, f .count) in
     let mh : min (heldCountOf ws i) 16 ≡ heldCountOf ws i = omega (arith, f .held) in
     and-intro (and-intro
-    (and-intro (and-intro (and-intro (and-intro (le-leb _ _ (f .behind)) (le-leb _ _ (f .near))) (lt-ltb _ _ (f .head))) (le-leb _ _ (f .count))) (le-leb _ _ (f .held)))
+    (and-intro (and-intro (and-intro (and-intro (le-leb _ _ (f .behind)) (keeps-up _ _ (f .near))) (lt-ltb _ _ (f .head))) (le-leb _ _ (f .count))) (le-leb _ _ (f .held)))
     (rw mc (each-of (countOf ws i) (inboxFits ws i) (f .inbox))))
     (rw mh (each-of (heldCountOf ws i) (heldFits ws i) (f .helds)))
 
 -- the place of the last k-th broadcast, and which broadcast is at a place
-pub recent-place : (ws : List ℕ) (k : ℕ) → k < madeOf ws → k < 64
-    → (j : ℕ) × (j < min (madeOf ws) 64) × (broadcastBlock (madeOf ws - k) ≡ broadcastBlock (firstRecent ws + j))
-recent-place ws k m h = go (decLt (madeOf ws) 64)
+pub recent-place : (ws : List ℕ) (k : ℕ) → k < madeOf ws → k < mostBehind
+    → (j : ℕ) × (j < min (madeOf ws) mostBehind) × (broadcastBlock (madeOf ws - k) ≡ broadcastBlock (firstRecent ws + j))
+recent-place ws k m h = go (decLt (madeOf ws) mostBehind)
   where
-    go : Dec (madeOf ws < 64) → (j : ℕ) × (j < min (madeOf ws) 64) × (broadcastBlock (madeOf ws - k) ≡ broadcastBlock (firstRecent ws + j))
-    go (yes l) = (madeOf ws - k - 1, omega arith, rw (lt-ltb (madeOf ws) 64 l) (omega arith))
-    go (no g) = ((madeOf ws - k) % 64, omega arith, rw (le-ltb (madeOf ws) 64 (omega arith)) (omega arith))
+    go : Dec (madeOf ws < mostBehind) → (j : ℕ) × (j < min (madeOf ws) mostBehind) × (broadcastBlock (madeOf ws - k) ≡ broadcastBlock (firstRecent ws + j))
+    go (yes l) = (madeOf ws - k - 1, omega arith, rw (lt-ltb (madeOf ws) mostBehind l) (omega arith))
+    go (no g) = ((madeOf ws - k) % mostBehind, omega arith, rw (le-ltb (madeOf ws) mostBehind (omega arith)) (omega arith))
 
-pub recent-number : (ws : List ℕ) (j : ℕ) → j < min (madeOf ws) 64
-    → (k : ℕ) × (k < madeOf ws) × (k < 64) × (broadcastBlock (firstRecent ws + j) ≡ broadcastBlock (madeOf ws - k))
-recent-number ws j h = go (decLt (madeOf ws) 64)
+pub recent-number : (ws : List ℕ) (j : ℕ) → j < min (madeOf ws) mostBehind
+    → (k : ℕ) × (k < madeOf ws) × (k < mostBehind) × (broadcastBlock (firstRecent ws + j) ≡ broadcastBlock (madeOf ws - k))
+recent-number ws j h = go (decLt (madeOf ws) mostBehind)
   where
-    go : Dec (madeOf ws < 64) → (k : ℕ) × (k < madeOf ws) × (k < 64) × (broadcastBlock (firstRecent ws + j) ≡ broadcastBlock (madeOf ws - k))
-    go (yes l) = (madeOf ws - (j + 1), omega arith, omega arith, rw (lt-ltb (madeOf ws) 64 l) (omega arith))
-    go (no g) = ((madeOf ws - j) % 64, omega arith, omega arith, rw (le-ltb (madeOf ws) 64 (omega arith)) (omega arith))
+    go : Dec (madeOf ws < mostBehind) → (k : ℕ) × (k < madeOf ws) × (k < mostBehind) × (broadcastBlock (firstRecent ws + j) ≡ broadcastBlock (madeOf ws - k))
+    go (yes l) = (madeOf ws - (j + 1), omega arith, omega arith, rw (lt-ltb (madeOf ws) mostBehind l) (omega arith))
+    go (no g) = ((madeOf ws - j) % mostBehind, omega arith, omega arith, rw (le-ltb (madeOf ws) mostBehind (omega arith)) (omega arith))
 
 pub fit-of : (ws : List ℕ) → wellSized ws ≡ true → Fit ws
 unfolding wellSized recentFits broadcastFits
 fit-of ws e =
-    let u = and-four (headFits ws) (each (cardsOf ws) (cardFits ws)) (each (tasksOf ws) (flightFits ws)) (each (min (madeOf ws) 64) (recentFits ws)) e in
+    let u = and-four (headFits ws) (each (cardsOf ws) (cardFits ws)) (each (tasksOf ws) (flightFits ws)) (each (min (madeOf ws) mostBehind) (recentFits ws)) e in
     record {
       sizes = u .0;
       card = λ i c. card-fit ws i (each-at (cardsOf ws) (cardFits ws) (u .1) i c);
       flight = each-at (tasksOf ws) (flightFits ws) (u .2);
       recent = λ k m h.
           let x = recent-place ws k m h in
-          rw (x .2) (each-at (min (madeOf ws) 64) (recentFits ws) (u .3) (x .0) (x .1));
+          rw (x .2) (each-at (min (madeOf ws) mostBehind) (recentFits ws) (u .3) (x .0) (x .1));
     }
 
 pub of-fit : (ws : List ℕ) → Fit ws → wellSized ws ≡ true
@@ -105,7 +107,7 @@ of-fit ws f =
     and-intro (and-intro (and-intro (f .sizes)
     (each-of (cardsOf ws) (cardFits ws) (λ i c. fit-card ws i (f .card i c))))
     (each-of (tasksOf ws) (flightFits ws) (f .flight)))
-    (each-of (min (madeOf ws) 64) (recentFits ws) (λ k h. let x = recent-number ws k h in rw (x .3) (f .recent (x .0) (x .1) (x .2))))
+    (each-of (min (madeOf ws) mostBehind) (recentFits ws) (λ k h. let x = recent-number ws k h in rw (x .3) (f .recent (x .0) (x .1) (x .2))))
 
 -- ---- words that agree
 

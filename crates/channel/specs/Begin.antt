@@ -6,7 +6,7 @@ use lib.Dec.{leb}
 use lib.ListN.{replicate, set}
 use Rattle.channel.specs.declared.Answer.{Answer}
 use Rattle.channel.specs.declared.Answer.the-variants.{Done, BadSize}
-use Rattle.channel.specs.Layout.{cardsWord, tasksWord, registersWord}
+use Rattle.channel.specs.Layout.{channelWords, cardsWord, tasksWord, registersWord}
 
 -- the sizes of RULES 1.3
 unfoldable pub sizesFit : ℕ → ℕ → ℕ → Bool
@@ -14,7 +14,7 @@ sizesFit cards tasks registers = leb 1 cards && leb cards 8 && leb 1 tasks && le
 
 -- every word zero but the sizes
 unfoldable pub begun : ℕ → ℕ → ℕ → List ℕ
-begun cards tasks registers = set (set (set (replicate 1364 0) cardsWord cards) tasksWord tasks) registersWord registers
+begun cards tasks registers = set (set (set (replicate channelWords 0) cardsWord cards) tasksWord tasks) registersWord registers
 
 -- 3: a size is out of range
 unfoldable pub beginAnswer : ℕ → ℕ → ℕ → Answer

@@ -2,12 +2,13 @@
 use Prim.Native.Nat.{ℕ, _+_}
 use mathlib.Core.Bool.{Bool, cond}
 use mathlib.Core.List.{List}
-use lib.Dec.{ltb, leb}
+use lib.Dec.{ltb}
 use lib.ListN.{set}
 use Rattle.lists.specs.Every.{each}
 use Rattle.names.specs.declared.Card.{Card}
 use Rattle.names.specs.declared.Message.{Message}
 use Rattle.names.specs.declared.Letter.{Letter}
+use Rattle.automaton.specs.MostBehind.{keepsUp}
 use Rattle.channel.specs.declared.Answer.{Answer}
 use Rattle.channel.specs.declared.Answer.the-variants.{Done, IllSized, NoCard, FarBehind}
 use Rattle.channel.specs.Answers.{isDone}
@@ -17,14 +18,14 @@ use Rattle.names.specs.Letters.{packetOf, stored, marked}
 use Rattle.channel.specs.Letters.{fits}
 use Rattle.channel.specs.TakeSingle.{noFlight}
 
--- one broadcast more leaves card i at most 64 behind (RULES 7.5)
+-- one broadcast more leaves card i not too far behind (RULES 7.5)
 unfoldable pub nearAt : List ℕ → ℕ → Bool
-nearAt ws i = leb (madeOf ws + 1) (takenOf ws i + 64)
+nearAt ws i = keepsUp (madeOf ws + 1) (takenOf ws i)
 
 unfoldable pub near : List ℕ → Bool
 near ws = each (cardsOf ws) (nearAt ws)
 
--- 34: a card would be more than 64 behind; 6 for the letter, and for broadcast 65,536 (RULES 7.7)
+-- 34: a card would be too far behind; 6 for the letter, and for broadcast 65,536 (RULES 7.7)
 unfoldable pub castAnswer : List ℕ → Letter → Answer
 castAnswer ws l = cond (near ws) (cond (fits ws l) (cond (ltb (madeOf ws) 65535) Done IllSized) IllSized) FarBehind
 

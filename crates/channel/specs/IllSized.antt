@@ -10,6 +10,7 @@ use Rattle.names.specs.declared.Body.the-variants.{UpdateDo}
 use Rattle.names.specs.declared.Letter.{Letter}
 use Rattle.names.specs.CardSet.{several, single}
 use Rattle.names.specs.Letters.{letterAt, kindAt, tagAt}
+use Rattle.automaton.specs.MostBehind.{mostBehind}
 use Rattle.channel.specs.Layout.{cardsWord, tasksWord, registersWord, cardsOf, tasksOf, registersOf, madeOf, takenOf, headOf, countOf, heldCountOf, placeOf, heldBlock, flightBlock, broadcastBlock}
 use Rattle.channel.specs.TakeSingle.{noFlight}
 use Rattle.channel.specs.Sized.{wellSized}
@@ -42,23 +43,23 @@ pub data IllChannel (ws : List ℕ) : Type 0 where
   -- c: an inbox, and what is held
   inbox : (i : ℕ) → i < cardsOf ws → 48 < countOf ws i → IllChannel ws
   held : (i : ℕ) → i < cardsOf ws → 16 < heldCountOf ws i → IllChannel ws
-  -- f, i: of a message in an inbox, held, in flight, or among the last 64 broadcasts
+  -- f, i: of a message in an inbox, held, in flight, or among the last broadcasts, which are kept
   inbox-message : (i k : ℕ) → i < cardsOf ws → k < countOf ws i → PastBlock ws ws (placeOf ws i k) → IllChannel ws
   held-message : (i k : ℕ) → i < cardsOf ws → k < heldCountOf ws i → PastBlock ws ws (heldBlock i k) → IllChannel ws
   flight-message : (t : ℕ) → t < tasksOf ws → noFlight ws t ≡ false → PastBlock ws ws (flightBlock t) → IllChannel ws
-  broadcast-message : (k : ℕ) → k < madeOf ws → k < 64 → PastBlock ws ws (broadcastBlock (madeOf ws - k)) → IllChannel ws
+  broadcast-message : (k : ℕ) → k < madeOf ws → k < mostBehind → PastBlock ws ws (broadcastBlock (madeOf ws - k)) → IllChannel ws
   -- g: a tag
   held-tag : (i k : ℕ) → i < cardsOf ws → k < heldCountOf ws i → 65535 < tagAt ws (heldBlock i k) → IllChannel ws
   flight-tag : (t : ℕ) → t < tasksOf ws → noFlight ws t ≡ false → 65535 < tagAt ws (flightBlock t) → IllChannel ws
   -- h: broadcasts taken
   above : (i : ℕ) → i < cardsOf ws → madeOf ws < takenOf ws i → IllChannel ws
-  below : (i : ℕ) → i < cardsOf ws → takenOf ws i + 64 < madeOf ws → IllChannel ws
+  below : (i : ℕ) → i < cardsOf ws → takenOf ws i + mostBehind < madeOf ws → IllChannel ws
   -- j: a place past the end of the ring, where there is no message
   inbox-head : (i : ℕ) → i < cardsOf ws → 48 ≤ headOf ws i → IllChannel ws
   -- k: a message in flight without exactly one destination: there is no card that step 8 could take it to
   flight-destination : (t : ℕ) → t < tasksOf ws → noFlight ws t ≡ false → single (letterAt ws (flightBlock t) .to) ≡ false → IllChannel ws
   -- k: a broadcast with at most one destination: it is none
-  broadcast-destination : (k : ℕ) → k < madeOf ws → k < 64 → several (letterAt ws (broadcastBlock (madeOf ws - k)) .to) ≡ false → IllChannel ws
+  broadcast-destination : (k : ℕ) → k < madeOf ws → k < mostBehind → several (letterAt ws (broadcastBlock (madeOf ws - k)) .to) ≡ false → IllChannel ws
 
 abbrev pub ChannelExact : List ℕ → Type 0
 ChannelExact ws = (wellSized ws ≡ false) ↔ IllChannel ws

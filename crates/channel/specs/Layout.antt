@@ -1,12 +1,13 @@
--- Where things lie in the channel's memory, 1,364 words that the caller lends (RULES 11.1, 11.12). Word 0 is the number of cards, word 1 of
+-- Where things lie in the channel's memory, 1,284 words that the caller lends (RULES 11.1, 11.12). Word 0 is the number of cards, word 1 of
 -- tasks, word 2 of registers, word 3 of broadcasts made. Then card after card, 148 words each: taken, head, inbox count, held count, 48 packets
--- of inbox (a ring), 16 held messages. Then each task's message in flight, then the last 64 broadcasts, number n at place n % 64 of them. A
--- packet has two words (names/specs/Letters); a message held or in flight has its tag in a third.
+-- of inbox (a ring), 16 held messages. Then each task's message in flight, then the last broadcasts. A packet has two words
+-- (names/specs/Letters); a message held or in flight has its tag in a third.
 use Prim.Native.Nat.{ℕ, _+_, _*_, _%_, min}
 use mathlib.Core.Bool.{cond}
 use mathlib.Core.List.{List}
 use lib.Dec.{ltb}
 use lib.ListN.{getD}
+use Rattle.automaton.specs.MostBehind.{mostBehind}
 
 -- ---- addresses of words
 
@@ -47,8 +48,13 @@ heldBlock i k = 104 + i * 148 + k * 3
 abbrev pub flightBlock : ℕ → ℕ
 flightBlock t = 1188 + t * 3
 
+-- broadcast n, in a ring of as many as a card may be behind
 abbrev pub broadcastBlock : ℕ → ℕ
-broadcastBlock n = 1236 + n % 64 * 2
+broadcastBlock n = 1236 + n % mostBehind * 2
+
+-- the ring of broadcasts ends the memory
+abbrev pub channelWords : ℕ
+channelWords = 1236 + mostBehind * 2
 
 -- ---- the words read. A size above its limit (RULES 1.3), which no well-sized memory has, counts as the limit (11.9)
 

@@ -9,6 +9,8 @@ pub mod TakeSingle
 pub mod Dispatch
 pub mod Sized
 pub mod IllSized
+pub mod BroadcastRing
+pub mod BehindExamples
 -- What a memory shows of the idealised state, and what is claimed of any list of calls on it
 pub mod Shows
 pub mod MemoryCalls

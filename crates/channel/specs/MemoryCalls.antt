@@ -15,7 +15,7 @@ use Rattle.channel.specs.declared.Received.{Received}
 use Rattle.channel.specs.declared.Received.the-variants.{Got, NoSuchCard, Empty}
 use Rattle.automaton.specs.State.{ChannelState, initialChannel, ChannelAction, dispatch, takeBroadcast, takeSingle, deliver, channelStep}
 use Rattle.automaton.specs.Refusals.{otherwise, channelRefusal}
-use Rattle.channel.specs.Layout.{cardsWord, tasksWord, registersWord, cardsOf, tasksOf, registersOf, madeOf, takenBy}
+use Rattle.channel.specs.Layout.{channelWords, cardsWord, tasksWord, registersWord, cardsOf, tasksOf, registersOf, madeOf, takenBy}
 use Rattle.names.specs.Letters.{letterAt}
 use Rattle.channel.specs.Letters.{fits}
 use Rattle.channel.specs.Answers.{answerNumber, receivedNumber}
@@ -129,7 +129,7 @@ pub record CallFollows (ws : List ℕ) (w : ChannelState Letter) (c : Call) : Ty
   pub number : callNumber ws c ≡ callRefusal ws w (actionOf c)
   pub shows : Shows (callMemory ws c) (cond (done (letters ws) w (actionOf c)) (channelStep letterMail w (actionOf c)) w)
   pub sized : wellSized (callMemory ws c) ≡ true
-  pub long : length (callMemory ws c) ≡ 1364
+  pub long : length (callMemory ws c) ≡ channelWords
   pub sizes : SameSizes (callMemory ws c) ws
   pub untouched : callNumber ws c ≢ 0 → callMemory ws c ≡ ws
 
@@ -147,7 +147,7 @@ pub record BeginFollows (ws : List ℕ) (cards tasks registers : ℕ) : Type 0 w
 -- channel holds of the calls' multicasts and receives, and if the channel is at rest the run is complete in the paper's sense.
 pub record RunFollows (ms : List ℕ) (cs : List Call) : Type 0 where
   pub sized : wellSized (memoryAfter ms cs) ≡ true
-  pub long : length (memoryAfter ms cs) ≡ 1364
+  pub long : length (memoryAfter ms cs) ≡ channelWords
   pub sizes : SameSizes (memoryAfter ms cs) ms
   pub shows : Shows (memoryAfter ms cs) (stateAfter ms cs)
   pub answers : answersAfter ms cs ≡ refusalsAfter ms (actionsOf cs)

@@ -11,6 +11,7 @@ use Rattle.names.specs.CardSet.{memberOf, several, soleOf}
 use Rattle.names.specs.declared.Letter.{Letter}
 use Rattle.automaton.specs.Mail.{Mail}
 use Rattle.automaton.specs.State.{Tagged, ChannelState}
+use Rattle.automaton.specs.MostBehind.{mostBehind}
 use Rattle.channel.specs.Layout.{inboxBlock, heldBlock, flightBlock, broadcastBlock, cardsOf, tasksOf, madeOf, takenOf, headOf, countOf, heldCountOf}
 use Rattle.names.specs.Letters.{letterAt, tagAt}
 use Rattle.channel.specs.TakeSingle.{noFlight}
@@ -40,11 +41,11 @@ heldOf ws i = listing (λ k. taggedAt ws (heldBlock i k)) (heldCountOf ws i)
 unfoldable pub flightOf : List ℕ → ℕ → Option (Tagged Letter)
 flightOf ws t = cond (noFlight ws t) none (some (taggedAt ws (flightBlock t)))
 
--- The words show the state, for each card and task that is present. Of the broadcasts, the memory has the last 64: number n + 1, which
+-- The words show the state, for each card and task that is present. Of the broadcasts, the memory has the last: number n + 1, which
 -- stands at place n of the list.
 pub record Shows (ws : List ℕ) (w : ChannelState Letter) : Type 0 where
   pub made= : length (w .sent) ≡ madeOf ws
-  pub sent= : (n : ℕ) → n < madeOf ws → madeOf ws ≤ n + 64 → nth (w .sent) n ≡ some (letterAt ws (broadcastBlock (n + 1)))
+  pub sent= : (n : ℕ) → n < madeOf ws → madeOf ws ≤ n + mostBehind → nth (w .sent) n ≡ some (letterAt ws (broadcastBlock (n + 1)))
   pub taken= : (i : ℕ) → i < cardsOf ws → w .taken i ≡ takenOf ws i
   pub flight= : (t : ℕ) → t < tasksOf ws → w .flight t ≡ flightOf ws t
   pub held= : (i : ℕ) → i < cardsOf ws → w .held i ≡ heldOf ws i

@@ -7,6 +7,7 @@ use lib.Dec.{ltb, leb}
 use lib.ListN.{getD}
 use Rattle.lists.specs.Every.{each}
 use Rattle.names.specs.CardSet.{several, single}
+use Rattle.automaton.specs.MostBehind.{mostBehind, keepsUp}
 use Rattle.channel.specs.Layout.{cardsWord, tasksWord, registersWord, cardsOf, tasksOf, madeOf, takenOf, headOf, countOf, heldCountOf, placeOf, heldBlock, flightBlock, broadcastBlock}
 use Rattle.names.specs.declared.Packet.{Packet}
 use Rattle.names.specs.Letters.{kindIn, letterOf, packetAt, letterAt, tagAt}
@@ -42,21 +43,21 @@ flightFits ws t = noFlight ws t || (taggedFits ws (flightBlock t) && single (let
 unfoldable pub broadcastFits : List ℕ → ℕ → Bool
 broadcastFits ws n = blockFits ws ws (broadcastBlock n) && several (letterAt ws (broadcastBlock n) .to)
 
--- the counts of card i: taken neither above the number made nor more than 64 below it (h); where its inbox starts (j); queue lengths (c)
+-- the counts of card i: taken neither above the number made nor more than `mostBehind` below it (h); where its inbox starts (j); queue lengths (c)
 unfoldable pub countsFit : List ℕ → ℕ → Bool
 countsFit ws i =
-    leb (takenOf ws i) (madeOf ws) && leb (madeOf ws) (takenOf ws i + 64)
+    leb (takenOf ws i) (madeOf ws) && keepsUp (madeOf ws) (takenOf ws i)
     && ltb (headOf ws i) 48 && leb (countOf ws i) 48 && leb (heldCountOf ws i) 16
 
 -- card i's part
 unfoldable pub cardFits : List ℕ → ℕ → Bool
 cardFits ws i = countsFit ws i && each (min (countOf ws i) 48) (inboxFits ws i) && each (min (heldCountOf ws i) 16) (heldFits ws i)
 
--- the first place in use among the last 64 broadcasts: 1 while fewer than 64 are made, for place 0 is number 64's
+-- the first place in use among the last broadcasts: 1 until all are, for place 0 is used last
 abbrev pub firstRecent : List ℕ → ℕ
-firstRecent ws = cond (ltb (madeOf ws) 64) 1 0
+firstRecent ws = cond (ltb (madeOf ws) mostBehind) 1 0
 
--- the k-th place in use, as they lie; the broadcasts before the last 64 are overwritten, and every card has taken them
+-- the k-th place in use, as they lie; older broadcasts are overwritten, and every card has taken them
 unfoldable pub recentFits : List ℕ → ℕ → Bool
 recentFits ws k = broadcastFits ws (firstRecent ws + k)
 
@@ -66,4 +67,4 @@ headFits ws = sizesFit (getD ws cardsWord 0) (getD ws tasksWord 0) (getD ws regi
 
 unfoldable pub wellSized : List ℕ → Bool
 wellSized ws =
-    headFits ws && each (cardsOf ws) (cardFits ws) && each (tasksOf ws) (flightFits ws) && each (min (madeOf ws) 64) (recentFits ws)
+    headFits ws && each (cardsOf ws) (cardFits ws) && each (tasksOf ws) (flightFits ws) && each (min (madeOf ws) mostBehind) (recentFits ws)

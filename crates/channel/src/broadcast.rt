@@ -6,6 +6,7 @@ ghost use Rattle.channel.specs.TakeBroadcast.{readyAt, releasableOf, bro
 use super::answers::done;
 use super::answers::unless_full;
 use super::inbox::push;
+use super::layout::WORDS;
 use super::layout::broadcast_block;
 use super::layout::capped;
 use super::layout::cards;
@@ -28,7 +29,7 @@ use names::Packet;
 use names::wide;
 
 // 1 where the held message k of a card waits for broadcast n, else 0.
-fn ready(memory: &[u32; 1364], card: Card, n: BroadcastNumber, k: usize) -> usize
+fn ready(memory: &[u32; WORDS], card: Card, n: BroadcastNumber, k: usize) -> usize
     requires { ⌜ (card .0 < 8) × (k < 16) ⌝ }
     ensures { λ r. ⌜ (r ≡ readyAt (now (memory .entry)) (card .0) (n .0) k) × (r ≤ 1) ⌝ }
 {
@@ -40,7 +41,7 @@ fn ready(memory: &[u32; 1364], card: Card, n: BroadcastNumber, k: usize) -> usiz
 }
 
 // How many held messages of a card wait for broadcast n.
-fn releasable(memory: &[u32; 1364], card: Card, n: BroadcastNumber) -> usize
+fn releasable(memory: &[u32; WORDS], card: Card, n: BroadcastNumber) -> usize
     requires { ⌜ card .0 < 8 ⌝ }
     ensures { λ r. ⌜ (r ≡ releasableOf (now (memory .entry)) (card .0) (n .0)) × (r ≤ 16) ⌝ }
 {
@@ -55,7 +56,7 @@ fn releasable(memory: &[u32; 1364], card: Card, n: BroadcastNumber) -> usize
 }
 
 // One held message: it joins the inbox where its tag is n, and else it moves down to place `kept`.
-fn sweep(memory: &mut [u32; 1364], card: Card, n: BroadcastNumber, k: usize, kept: usize) -> usize
+fn sweep(memory: &mut [u32; WORDS], card: Card, n: BroadcastNumber, k: usize, kept: usize) -> usize
     requires { ⌜ (card .0 < 8) × (k < 16) × (kept ≤ k) ⌝ }
     ensures memory { λ _. ⌜ now (memory .exit) ≡ sweptWords (card .0) (n .0) k (now (memory .entry)) kept ⌝ }
     ensures kept { λ r. ⌜ (r ≡ sweptKept (card .0) (n .0) k (now (memory .entry)) kept) × (r ≤ kept + 1) ⌝ }
@@ -72,7 +73,7 @@ fn sweep(memory: &mut [u32; 1364], card: Card, n: BroadcastNumber, k: usize, kep
 }
 
 // The held messages of a card with tag n join its inbox in order, and the others close up.
-fn release(memory: &mut [u32; 1364], card: Card, n: BroadcastNumber)
+fn release(memory: &mut [u32; WORDS], card: Card, n: BroadcastNumber)
     requires { ⌜ card .0 < 8 ⌝ }
     ensures { λ _. ⌜ now (memory .exit) ≡ releasedWords (now (memory .entry)) (card .0) (n .0) ⌝ }
 {
@@ -87,7 +88,7 @@ fn release(memory: &mut [u32; 1364], card: Card, n: BroadcastNumber)
 }
 
 // 1 where the message at place k of a card's inbox came by broadcast, else 0.
-fn broadcast_at(memory: &[u32; 1364], card: Card, k: u32) -> usize
+fn broadcast_at(memory: &[u32; WORDS], card: Card, k: u32) -> usize
     requires { ⌜ (card .0 < 8) × (k < 48) ⌝ }
     ensures { λ r. ⌜ (r ≡ broadcastAt (now (memory .entry)) (card .0) k) × (r ≤ 1) ⌝ }
 {
@@ -98,7 +99,7 @@ fn broadcast_at(memory: &[u32; 1364], card: Card, k: u32) -> usize
 }
 
 // How many broadcasts stand in a card's inbox.
-fn broadcasts(memory: &[u32; 1364], card: Card) -> usize
+fn broadcasts(memory: &[u32; WORDS], card: Card) -> usize
     requires { ⌜ card .0 < 8 ⌝ }
     ensures { λ r. ⌜ (r ≡ broadcastsOf (now (memory .entry)) (card .0)) × (r ≤ 48) ⌝ }
 {
@@ -113,7 +114,7 @@ fn broadcasts(memory: &[u32; 1364], card: Card) -> usize
 }
 
 // Whether a card's inbox has 32 broadcasts. A shorter inbox is not counted through.
-fn crowded(memory: &[u32; 1364], card: Card) -> bool
+fn crowded(memory: &[u32; WORDS], card: Card) -> bool
     requires { ⌜ card .0 < 8 ⌝ }
     ensures { λ r. ⌜ r ≡ leb 32 (broadcastsOf (now (memory .entry)) (card .0)) ⌝ }
 {
@@ -124,7 +125,7 @@ fn crowded(memory: &[u32; 1364], card: Card) -> bool
 }
 
 // A broadcast and its number reach a card, a destination: it joins the inbox, and then what waited for it.
-fn arrive(memory: &mut [u32; 1364], card: Card, number: BroadcastNumber, broadcast: Packet)
+fn arrive(memory: &mut [u32; WORDS], card: Card, number: BroadcastNumber, broadcast: Packet)
     requires { ⌜ card .0 < 8 ⌝ }
     ensures { λ _. ⌜ now (memory .exit) ≡ arrived (now (memory .entry)) (card .0) (number .0) broadcast ⌝ }
 {
@@ -133,7 +134,7 @@ fn arrive(memory: &mut [u32; 1364], card: Card, number: BroadcastNumber, broadca
 }
 
 // A card takes broadcast n, whose packet is `packet`.
-fn join(memory: &mut [u32; 1364], card: Card, n: BroadcastNumber, packet: Packet, there: bool)
+fn join(memory: &mut [u32; WORDS], card: Card, n: BroadcastNumber, packet: Packet, there: bool)
     requires { ⌜ card .0 < 8 ⌝ }
     ensures { λ _. ⌜ now (memory .exit) ≡ joined (now (memory .entry)) (card .0) (n .0) packet there ⌝ }
 {
@@ -154,7 +155,7 @@ fn after(x: BroadcastNumber, y: BroadcastNumber) -> BroadcastNumber
 }
 
 // Whether a card's inbox has room for broadcast n and what it releases.
-fn room(memory: &[u32; 1364], card: Card, n: BroadcastNumber, there: bool) -> Answer
+fn room(memory: &[u32; WORDS], card: Card, n: BroadcastNumber, there: bool) -> Answer
     requires { ⌜ card .0 < 8 ⌝ }
     ensures { λ r. ⌜ r ≡ roomAnswer (now (memory .entry)) (card .0) (n .0) there ⌝ }
 {
@@ -169,7 +170,7 @@ fn room(memory: &[u32; 1364], card: Card, n: BroadcastNumber, there: bool) -> An
 }
 
 // A card takes broadcast n, where there is room.
-fn take_next(memory: &mut [u32; 1364], card: Card, n: BroadcastNumber) -> Answer
+fn take_next(memory: &mut [u32; WORDS], card: Card, n: BroadcastNumber) -> Answer
     requires { ⌜ card .0 < 8 ⌝ }
     ensures memory { λ _. ⌜ now (memory .exit) ≡ nextMemory (now (memory .entry)) (card .0) (n .0) ⌝ }
     ensures answer { λ r. ⌜ r ≡ nextAnswer (now (memory .entry)) (card .0) (n .0) ⌝ }
@@ -186,7 +187,7 @@ fn take_next(memory: &mut [u32; 1364], card: Card, n: BroadcastNumber) -> Answer
 }
 
 // Step 7: the card takes the next broadcast.
-pub fn take_broadcast(memory: &mut [u32; 1364], card: Card) -> Answer
+pub fn take_broadcast(memory: &mut [u32; WORDS], card: Card) -> Answer
     ensures memory { λ _. ⌜ now (memory .exit) ≡ takeMemory (now (memory .entry)) card ⌝ }
     ensures answer { λ r. ⌜ r ≡ takeAnswer (now (memory .entry)) card ⌝ }
 {

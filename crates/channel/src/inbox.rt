@@ -2,6 +2,7 @@
 ghost use mathlib.Core.Path.{_≡_};
 ghost use Prim.Native.Nat.{_<_, _≤_};
 ghost use Rattle.channel.specs.Inbox.{pushed, popped, gotOf, receiveAnswer, receiveMemory};
+use super::layout::WORDS;
 use super::layout::cards;
 use super::layout::count_of;
 use super::layout::inbox_block;
@@ -17,7 +18,7 @@ use names::Card;
 use names::Packet;
 
 // One packet more at the end of a card's inbox; nothing changes where there is no room.
-pub(crate) fn push(memory: &mut [u32; 1364], card: Card, packet: Packet)
+pub(crate) fn push(memory: &mut [u32; WORDS], card: Card, packet: Packet)
     requires { ⌜ card .0 < 8 ⌝ }
     ensures { λ _. ⌜ now (memory .exit) ≡ pushed (now (memory .entry)) (card .0) packet ⌝ }
 {
@@ -30,7 +31,7 @@ pub(crate) fn push(memory: &mut [u32; 1364], card: Card, packet: Packet)
 }
 
 // The message of the first letter of a card's inbox.
-fn first(memory: &[u32; 1364], card: Card) -> Received
+fn first(memory: &[u32; WORDS], card: Card) -> Received
     requires { ⌜ card .0 < 8 ⌝ }
     ensures { λ r. ⌜ r ≡ gotOf (now (memory .entry)) (card .0) ⌝ }
 {
@@ -44,7 +45,7 @@ fn first(memory: &[u32; 1364], card: Card) -> Received
 }
 
 // The first letter of a card's inbox leaves it, where there is one.
-fn drop_first(memory: &mut [u32; 1364], card: Card)
+fn drop_first(memory: &mut [u32; WORDS], card: Card)
     requires { ⌜ card .0 < 8 ⌝ }
     ensures { λ _. ⌜ now (memory .exit) ≡ popped (now (memory .entry)) (card .0) ⌝ }
 {
@@ -57,7 +58,7 @@ fn drop_first(memory: &mut [u32; 1364], card: Card)
 }
 
 // The message at the head of a card's inbox, which stays there: what `receive` would hand up.
-pub fn head(memory: &[u32; 1364], card: Card) -> Received
+pub fn head(memory: &[u32; WORDS], card: Card) -> Received
     ensures { λ r. ⌜ r ≡ receiveAnswer (now (memory .entry)) card ⌝ }
 {
     if cards(memory) <= card.0 {
@@ -67,7 +68,7 @@ pub fn head(memory: &[u32; 1364], card: Card) -> Received
 }
 
 // The channel's part of step 9: the head of the card's inbox leaves it.
-pub fn receive(memory: &mut [u32; 1364], card: Card) -> Received
+pub fn receive(memory: &mut [u32; WORDS], card: Card) -> Received
     ensures memory { λ _. ⌜ now (memory .exit) ≡ receiveMemory (now (memory .entry)) card ⌝ }
     ensures answer { λ r. ⌜ r ≡ receiveAnswer (now (memory .entry)) card ⌝ }
 {

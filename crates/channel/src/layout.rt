@@ -1,8 +1,8 @@
 // Where things lie in the channel's memory, its sizes, and its start.
 ghost use mathlib.Core.Path.{_≡_};
-ghost use Prim.Native.Nat.{_<_, _≤_, _%_, min};
+ghost use Prim.Native.Nat.{_+_, _<_, _≤_, _%_, min};
 ghost use lib.ListN.{set};
-ghost use Rattle.channel.specs.Layout.{cardsOf, tasksOf, registersOf, madeOf, takenOf, headOf, countOf, heldCountOf, takenWord, headWord, countWord, heldWord, inboxBlock, placeOf, heldBlock, flightBlock, broadcastBlock, takenBy};
+ghost use Rattle.channel.specs.Layout.{channelWords, cardsOf, tasksOf, registersOf, madeOf, takenOf, headOf, countOf, heldCountOf, takenWord, headWord, countWord, heldWord, inboxBlock, placeOf, heldBlock, flightBlock, broadcastBlock, takenBy};
 ghost use Rattle.channel.specs.Letters.{limitsOf};
 ghost use Rattle.channel.specs.Begin.{sizesFit, beginAnswer, beginMemory};
 use crate::Answer;
@@ -40,8 +40,13 @@ const KEPT: usize = 104;
 // Task t's message in flight, with its tag, is at FLIGHT + t * 3.
 const FLIGHT: usize = 1188;
 
-// Broadcast n is at RECENT + n % 64 * 2.
+// How many broadcasts a card may be behind (RULES 7.5). The code says it here alone; so many are kept.
+pub(crate) const MOST_BEHIND: u32 = 24;
+
+// Broadcast n is at RECENT + n % MOST_BEHIND * 2, and this ring ends the memory.
 pub(crate) const RECENT: usize = 1236;
+
+pub const WORDS: usize = RECENT + MOST_BEHIND as usize * 2;
 
 pub(crate) fn capped(x: u32, most: u32) -> u32
     ensures { λ r. ⌜ r ≡ min x most ⌝ }
@@ -53,28 +58,28 @@ pub(crate) fn capped(x: u32, most: u32) -> u32
 }
 
 // The number of cards.
-pub fn cards(memory: &[u32; 1364]) -> u32
+pub fn cards(memory: &[u32; WORDS]) -> u32
     ensures { λ r. ⌜ (r ≡ cardsOf (now (memory .entry))) × (r ≤ 8) ⌝ }
 {
     capped(memory[CARDS], 8)
 }
 
 // The number of tasks.
-pub fn tasks(memory: &[u32; 1364]) -> u32
+pub fn tasks(memory: &[u32; WORDS]) -> u32
     ensures { λ r. ⌜ (r ≡ tasksOf (now (memory .entry))) × (r ≤ 16) ⌝ }
 {
     capped(memory[TASKS], 16)
 }
 
 // The number of registers.
-pub fn registers(memory: &[u32; 1364]) -> u32
+pub fn registers(memory: &[u32; WORDS]) -> u32
     ensures { λ r. ⌜ (r ≡ registersOf (now (memory .entry))) × (r ≤ 32) ⌝ }
 {
     capped(memory[REGISTERS], 32)
 }
 
 // What the numbers in a state are below.
-pub fn limits_of(memory: &[u32; 1364]) -> Limits
+pub fn limits_of(memory: &[u32; WORDS]) -> Limits
     ensures { λ r. ⌜ r ≡ limitsOf (now (memory .entry)) ⌝ }
 {
     let cards = cards(memory);
@@ -87,63 +92,63 @@ pub fn limits_of(memory: &[u32; 1364]) -> Limits
 }
 
 // The number of broadcasts made, which is the number of the last.
-pub fn made(memory: &[u32; 1364]) -> BroadcastNumber
+pub fn made(memory: &[u32; WORDS]) -> BroadcastNumber
     ensures { λ r. ⌜ r .0 ≡ madeOf (now (memory .entry)) ⌝ }
 {
     BroadcastNumber(memory[MADE])
 }
 
 // A card's own words.
-pub(crate) fn taken_of(memory: &[u32; 1364], card: Card) -> BroadcastNumber
+pub(crate) fn taken_of(memory: &[u32; WORDS], card: Card) -> BroadcastNumber
     requires { ⌜ card .0 < 8 ⌝ }
     ensures { λ r. ⌜ r .0 ≡ takenOf (now (memory .entry)) (card .0) ⌝ }
 {
     BroadcastNumber(memory[FIRST + card.0 as usize * PART])
 }
 
-pub(crate) fn head_of(memory: &[u32; 1364], card: Card) -> u32
+pub(crate) fn head_of(memory: &[u32; WORDS], card: Card) -> u32
     requires { ⌜ card .0 < 8 ⌝ }
     ensures { λ r. ⌜ r ≡ headOf (now (memory .entry)) (card .0) ⌝ }
 {
     memory[FIRST + card.0 as usize * PART + HEAD]
 }
 
-pub(crate) fn count_of(memory: &[u32; 1364], card: Card) -> u32
+pub(crate) fn count_of(memory: &[u32; WORDS], card: Card) -> u32
     requires { ⌜ card .0 < 8 ⌝ }
     ensures { λ r. ⌜ r ≡ countOf (now (memory .entry)) (card .0) ⌝ }
 {
     memory[FIRST + card.0 as usize * PART + COUNT]
 }
 
-pub(crate) fn held_of(memory: &[u32; 1364], card: Card) -> u32
+pub(crate) fn held_of(memory: &[u32; WORDS], card: Card) -> u32
     requires { ⌜ card .0 < 8 ⌝ }
     ensures { λ r. ⌜ r ≡ heldCountOf (now (memory .entry)) (card .0) ⌝ }
 {
     memory[FIRST + card.0 as usize * PART + HELD]
 }
 
-pub(crate) fn set_taken(memory: &mut [u32; 1364], card: Card, n: BroadcastNumber)
+pub(crate) fn set_taken(memory: &mut [u32; WORDS], card: Card, n: BroadcastNumber)
     requires { ⌜ card .0 < 8 ⌝ }
     ensures { λ _. ⌜ now (memory .exit) ≡ set (now (memory .entry)) (takenWord (card .0)) (n .0) ⌝ }
 {
     memory[FIRST + card.0 as usize * PART] = n.0;
 }
 
-pub(crate) fn set_head(memory: &mut [u32; 1364], card: Card, x: u32)
+pub(crate) fn set_head(memory: &mut [u32; WORDS], card: Card, x: u32)
     requires { ⌜ card .0 < 8 ⌝ }
     ensures { λ _. ⌜ now (memory .exit) ≡ set (now (memory .entry)) (headWord (card .0)) x ⌝ }
 {
     memory[FIRST + card.0 as usize * PART + HEAD] = x;
 }
 
-pub(crate) fn set_count(memory: &mut [u32; 1364], card: Card, x: u32)
+pub(crate) fn set_count(memory: &mut [u32; WORDS], card: Card, x: u32)
     requires { ⌜ card .0 < 8 ⌝ }
     ensures { λ _. ⌜ now (memory .exit) ≡ set (now (memory .entry)) (countWord (card .0)) x ⌝ }
 {
     memory[FIRST + card.0 as usize * PART + COUNT] = x;
 }
 
-pub(crate) fn set_held(memory: &mut [u32; 1364], card: Card, x: u32)
+pub(crate) fn set_held(memory: &mut [u32; WORDS], card: Card, x: u32)
     requires { ⌜ card .0 < 8 ⌝ }
     ensures { λ _. ⌜ now (memory .exit) ≡ set (now (memory .entry)) (heldWord (card .0)) x ⌝ }
 {
@@ -153,13 +158,13 @@ pub(crate) fn set_held(memory: &mut [u32; 1364], card: Card, x: u32)
 // Where packet k of a card's inbox lies.
 pub(crate) fn inbox_block(card: Card, k: u32) -> usize
     requires { ⌜ (card .0 < 8) × (k < 48) ⌝ }
-    ensures { λ r. ⌜ (r ≡ inboxBlock (card .0) k) × (r < 1363) ⌝ }
+    ensures { λ r. ⌜ (r ≡ inboxBlock (card .0) k) × (r + 1 < channelWords) ⌝ }
 {
     INBOX + card.0 as usize * PART + k as usize * 2
 }
 
 // Where an inbox starts in its ring. In a well-sized memory no start is past the ring's end, so nothing is divided.
-pub(crate) fn start(memory: &[u32; 1364], card: Card) -> u32
+pub(crate) fn start(memory: &[u32; WORDS], card: Card) -> u32
     requires { ⌜ card .0 < 8 ⌝ }
     ensures { λ r. ⌜ (r ≡ headOf (now (memory .entry)) (card .0) % 48) × (r < 48) ⌝ }
 {
@@ -182,9 +187,9 @@ pub(crate) fn wrapped(place: u32) -> u32
 }
 
 // Where place k of a card's inbox lies, oldest first.
-pub(crate) fn place_of(memory: &[u32; 1364], card: Card, k: u32) -> usize
+pub(crate) fn place_of(memory: &[u32; WORDS], card: Card, k: u32) -> usize
     requires { ⌜ (card .0 < 8) × (k < 48) ⌝ }
-    ensures { λ r. ⌜ (r ≡ placeOf (now (memory .entry)) (card .0) k) × (r < 1363) ⌝ }
+    ensures { λ r. ⌜ (r ≡ placeOf (now (memory .entry)) (card .0) k) × (r + 1 < channelWords) ⌝ }
 {
     inbox_block(card, wrapped(start(memory, card) + k))
 }
@@ -192,7 +197,7 @@ pub(crate) fn place_of(memory: &[u32; 1364], card: Card, k: u32) -> usize
 // Where place k of what is held for a card lies.
 pub(crate) fn held_block(card: Card, k: usize) -> usize
     requires { ⌜ (card .0 < 8) × (k < 16) ⌝ }
-    ensures { λ r. ⌜ (r ≡ heldBlock (card .0) k) × (r < 1362) ⌝ }
+    ensures { λ r. ⌜ (r ≡ heldBlock (card .0) k) × (r + 2 < channelWords) ⌝ }
 {
     KEPT + card.0 as usize * PART + k * 3
 }
@@ -200,20 +205,20 @@ pub(crate) fn held_block(card: Card, k: usize) -> usize
 // Where a task's message in flight lies.
 pub(crate) fn flight_block(task: Task) -> usize
     requires { ⌜ task .0 < 16 ⌝ }
-    ensures { λ r. ⌜ (r ≡ flightBlock (task .0)) × (r < 1362) ⌝ }
+    ensures { λ r. ⌜ (r ≡ flightBlock (task .0)) × (r + 2 < channelWords) ⌝ }
 {
     FLIGHT + task.0 as usize * 3
 }
 
 // Where a broadcast lies.
 pub(crate) fn broadcast_block(n: BroadcastNumber) -> usize
-    ensures { λ r. ⌜ (r ≡ broadcastBlock (n .0)) × (r < 1363) ⌝ }
+    ensures { λ r. ⌜ (r ≡ broadcastBlock (n .0)) × (r + 1 < channelWords) ⌝ }
 {
-    RECENT + (n.0 % 64) as usize * 2
+    RECENT + (n.0 % MOST_BEHIND) as usize * 2
 }
 
 // The number of broadcasts that a card has taken; 0 for an absent card.
-pub fn taken(memory: &[u32; 1364], card: Card) -> BroadcastNumber
+pub fn taken(memory: &[u32; WORDS], card: Card) -> BroadcastNumber
     ensures { λ r. ⌜ r .0 ≡ takenBy (now (memory .entry)) (card .0) ⌝ }
 {
     if cards(memory) <= card.0 {
@@ -235,14 +240,14 @@ pub(crate) fn sizes_fit(cards: u32, tasks: u32, registers: u32) -> bool
 }
 
 // The memory for these sizes with every queue empty and no broadcast made.
-pub fn begin(memory: &mut [u32; 1364], cards: u32, tasks: u32, registers: u32) -> Answer
+pub fn begin(memory: &mut [u32; WORDS], cards: u32, tasks: u32, registers: u32) -> Answer
     ensures memory { λ _. ⌜ now (memory .exit) ≡ beginMemory (now (memory .entry)) cards tasks registers ⌝ }
     ensures answer { λ r. ⌜ r ≡ beginAnswer cards tasks registers ⌝ }
 {
     if !sizes_fit(cards, tasks, registers) {
         return Answer::BadSize;
     }
-    *memory = [0; 1364];
+    *memory = [0; WORDS];
     memory[CARDS] = cards;
     memory[TASKS] = tasks;
     memory[REGISTERS] = registers;

@@ -1,8 +1,10 @@
 // Packets in the memory, and what of a letter in one is past its limit.
 ghost use mathlib.Core.Path.{_≡_};
-ghost use Prim.Native.Nat.{_<_, _≤_};
+ghost use Prim.Native.Nat.{_+_, _<_, _≤_};
 ghost use Rattle.names.specs.Letters.{letterOf, packetAt, letterAt, kindAt, tagAt, stored, marked};
+ghost use Rattle.channel.specs.Layout.{channelWords};
 ghost use Rattle.channel.specs.Letters.{fits, wordFits};
+use super::layout::WORDS;
 use super::layout::cards;
 use super::layout::registers;
 use super::layout::tasks;
@@ -11,30 +13,30 @@ use names::BroadcastNumber;
 use names::Packet;
 
 // The kind, the destinations and the tag at a place.
-pub(crate) fn kind_at(memory: &[u32; 1364], block: usize) -> u32
-    requires { ⌜ block < 1363 ⌝ }
+pub(crate) fn kind_at(memory: &[u32; WORDS], block: usize) -> u32
+    requires { ⌜ block + 1 < channelWords ⌝ }
     ensures { λ r. ⌜ r ≡ kindAt (now (memory .entry)) block ⌝ }
 {
     names::letters::kind_in(memory[block])
 }
 
-pub(crate) fn to_at(memory: &[u32; 1364], block: usize) -> u32
-    requires { ⌜ block < 1363 ⌝ }
+pub(crate) fn to_at(memory: &[u32; WORDS], block: usize) -> u32
+    requires { ⌜ block + 1 < channelWords ⌝ }
     ensures { λ r. ⌜ r ≡ letterAt (now (memory .entry)) block .to ⌝ }
 {
     names::letters::to_in(memory[block])
 }
 
-pub(crate) fn tag_at(memory: &[u32; 1364], block: usize) -> BroadcastNumber
-    requires { ⌜ block < 1362 ⌝ }
+pub(crate) fn tag_at(memory: &[u32; WORDS], block: usize) -> BroadcastNumber
+    requires { ⌜ block + 2 < channelWords ⌝ }
     ensures { λ r. ⌜ r .0 ≡ tagAt (now (memory .entry)) block ⌝ }
 {
     BroadcastNumber(memory[block + 2])
 }
 
 // The packet at a place.
-pub(crate) fn load(memory: &[u32; 1364], block: usize) -> Packet
-    requires { ⌜ block < 1363 ⌝ }
+pub(crate) fn load(memory: &[u32; WORDS], block: usize) -> Packet
+    requires { ⌜ block + 1 < channelWords ⌝ }
     ensures { λ r. ⌜ r ≡ packetAt (now (memory .entry)) block ⌝ }
 {
     Packet {
@@ -44,8 +46,8 @@ pub(crate) fn load(memory: &[u32; 1364], block: usize) -> Packet
 }
 
 // A packet to a place.
-pub(crate) fn store(memory: &mut [u32; 1364], block: usize, packet: Packet)
-    requires { ⌜ block < 1363 ⌝ }
+pub(crate) fn store(memory: &mut [u32; WORDS], block: usize, packet: Packet)
+    requires { ⌜ block + 1 < channelWords ⌝ }
     ensures { λ _. ⌜ now (memory .exit) ≡ stored (now (memory .entry)) block packet ⌝ }
 {
     memory[block] = packet.word;
@@ -53,8 +55,8 @@ pub(crate) fn store(memory: &mut [u32; 1364], block: usize, packet: Packet)
 }
 
 // A packet and its tag to a place.
-pub(crate) fn mark(memory: &mut [u32; 1364], block: usize, packet: Packet, tag: BroadcastNumber)
-    requires { ⌜ block < 1362 ⌝ }
+pub(crate) fn mark(memory: &mut [u32; WORDS], block: usize, packet: Packet, tag: BroadcastNumber)
+    requires { ⌜ block + 2 < channelWords ⌝ }
     ensures { λ _. ⌜ now (memory .exit) ≡ marked (now (memory .entry)) block packet (tag .0) ⌝ }
 {
     store(memory, block, packet);
@@ -62,7 +64,7 @@ pub(crate) fn mark(memory: &mut [u32; 1364], block: usize, packet: Packet, tag: 
 }
 
 // Whether no field of the letter that a packet carries is past its limit, there is a destination, and each is a present card.
-pub(crate) fn fits(memory: &[u32; 1364], packet: Packet) -> bool
+pub(crate) fn fits(memory: &[u32; WORDS], packet: Packet) -> bool
     ensures { λ r. ⌜ r ≡ fits (now (memory .entry)) (letterOf packet) ⌝ }
 {
     let word = packet.word;

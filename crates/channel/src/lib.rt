@@ -14,6 +14,7 @@ mod sized;
 pub use broadcast::take_broadcast;
 pub use inbox::head;
 pub use inbox::receive;
+pub use layout::WORDS;
 pub use layout::begin;
 pub use layout::cards;
 pub use layout::limits_of;

@@ -4,6 +4,8 @@ ghost use Prim.Native.Nat.{_<_, _≤_};
 ghost use Rattle.names.specs.Letters.{letterOf};
 ghost use Rattle.channel.specs.Dispatch.{nearAt, near, castAnswer, castMemory, flyAnswer, flyMemory, dispatchAnswer, dispatchMemory};
 use super::layout::MADE;
+use super::layout::MOST_BEHIND;
+use super::layout::WORDS;
 use super::layout::broadcast_block;
 use super::layout::cards;
 use super::layout::flight_block;
@@ -22,18 +24,18 @@ use names::letters::task_in;
 use names::letters::to_in;
 use names::wide;
 
-// Whether one broadcast more leaves a card at most 64 behind.
-fn near_at(memory: &[u32; 1364], card: Card) -> bool
+// Whether one broadcast more leaves a card not too far behind.
+fn near_at(memory: &[u32; WORDS], card: Card) -> bool
     requires { ⌜ card .0 < 8 ⌝ }
     ensures { λ r. ⌜ r ≡ nearAt (now (memory .entry)) (card .0) ⌝ }
 {
     let taken = wide(taken_of(memory, card).0);
     let last = wide(made(memory).0);
-    last + 1 <= taken + 64
+    last + 1 <= taken + MOST_BEHIND as usize
 }
 
-// Whether one broadcast more leaves every card at most 64 behind.
-fn near(memory: &[u32; 1364]) -> bool
+// Whether one broadcast more leaves no card too far behind.
+fn near(memory: &[u32; WORDS]) -> bool
     ensures { λ r. ⌜ r ≡ near (now (memory .entry)) ⌝ }
 {
     let n = cards(memory);
@@ -48,7 +50,7 @@ fn near(memory: &[u32; 1364]) -> bool
 }
 
 // A letter to more cards than one becomes the next broadcast.
-fn cast(memory: &mut [u32; 1364], packet: Packet) -> Answer
+fn cast(memory: &mut [u32; WORDS], packet: Packet) -> Answer
     ensures memory { λ _. ⌜ now (memory .exit) ≡ castMemory (now (memory .entry)) (letterOf packet) ⌝ }
     ensures answer { λ r. ⌜ r ≡ castAnswer (now (memory .entry)) (letterOf packet) ⌝ }
 {
@@ -69,7 +71,7 @@ fn cast(memory: &mut [u32; 1364], packet: Packet) -> Answer
 }
 
 // A letter to one card is in flight, tagged with the number of broadcasts that the card, which sends it, has taken.
-fn fly(memory: &mut [u32; 1364], card: Card, packet: Packet) -> Answer
+fn fly(memory: &mut [u32; WORDS], card: Card, packet: Packet) -> Answer
     requires { ⌜ card .0 < 8 ⌝ }
     ensures memory { λ _. ⌜ now (memory .exit) ≡ flyMemory (now (memory .entry)) (card .0) (letterOf packet) ⌝ }
     ensures answer { λ r. ⌜ r ≡ flyAnswer (now (memory .entry)) (letterOf packet) ⌝ }
@@ -87,7 +89,7 @@ fn fly(memory: &mut [u32; 1364], card: Card, packet: Packet) -> Answer
 }
 
 // Step 6, the channel's part: the message in a packet goes to its destinations. It is never taken out of the packet.
-pub fn dispatch(memory: &mut [u32; 1364], card: Card, packet: Packet) -> Answer
+pub fn dispatch(memory: &mut [u32; WORDS], card: Card, packet: Packet) -> Answer
     ensures memory { λ _. ⌜ now (memory .exit) ≡ dispatchMemory (now (memory .entry)) card (letterOf packet .message) (letterOf packet .to) ⌝ }
     ensures answer { λ r. ⌜ r ≡ dispatchAnswer (now (memory .entry)) card (letterOf packet .message) (letterOf packet .to) ⌝ }
 {

@@ -7,6 +7,7 @@ ghost use Rattle.channel.specs.TakeSingle.{noFlight, joinsAt, heldMore, 
 use super::answers::done;
 use super::answers::unless_full;
 use super::inbox::push;
+use super::layout::WORDS;
 use super::layout::count_of;
 use super::layout::flight_block;
 use super::layout::held_block;
@@ -26,7 +27,7 @@ use names::Packet;
 use names::Task;
 
 // Whether a task has nothing in flight.
-pub(crate) fn no_flight(memory: &[u32; 1364], task: Task) -> bool
+pub(crate) fn no_flight(memory: &[u32; WORDS], task: Task) -> bool
     requires { ⌜ task .0 < 16 ⌝ }
     ensures { λ r. ⌜ r ≡ noFlight (now (memory .entry)) (task .0) ⌝ }
 {
@@ -42,7 +43,7 @@ fn destination(to: u32) -> Card
 }
 
 // Whether a message with this tag joins a card's inbox, and is not held.
-fn joins_at(memory: &[u32; 1364], card: Card, tag: BroadcastNumber) -> bool
+fn joins_at(memory: &[u32; WORDS], card: Card, tag: BroadcastNumber) -> bool
     requires { ⌜ card .0 < 8 ⌝ }
     ensures { λ r. ⌜ r ≡ joinsAt (now (memory .entry)) (card .0) (tag .0) ⌝ }
 {
@@ -50,7 +51,7 @@ fn joins_at(memory: &[u32; 1364], card: Card, tag: BroadcastNumber) -> bool
 }
 
 // One packet more among those held for a card; nothing changes where there is no room.
-fn hold(memory: &mut [u32; 1364], card: Card, packet: Packet, tag: BroadcastNumber)
+fn hold(memory: &mut [u32; WORDS], card: Card, packet: Packet, tag: BroadcastNumber)
     requires { ⌜ card .0 < 8 ⌝ }
     ensures { λ _. ⌜ now (memory .exit) ≡ heldMore (now (memory .entry)) (card .0) packet (tag .0) ⌝ }
 {
@@ -64,7 +65,7 @@ fn hold(memory: &mut [u32; 1364], card: Card, packet: Packet, tag: BroadcastNumb
 
 // A task's message in flight reaches a card, where it joins the inbox or is held.
 fn land(
-    memory: &mut [u32; 1364],
+    memory: &mut [u32; WORDS],
     task: Task,
     card: Card,
     packet: Packet,
@@ -84,7 +85,7 @@ fn land(
 }
 
 // Whether a card has room for a message that joins its inbox, or is held.
-fn may_land(memory: &[u32; 1364], card: Card, joins: bool) -> Answer
+fn may_land(memory: &[u32; WORDS], card: Card, joins: bool) -> Answer
     requires { ⌜ card .0 < 8 ⌝ }
     ensures { λ r. ⌜ r ≡ landAnswer (now (memory .entry)) (card .0) joins ⌝ }
 {
@@ -95,7 +96,7 @@ fn may_land(memory: &[u32; 1364], card: Card, joins: bool) -> Answer
 }
 
 // A task's message in flight reaches its destination, where there is room.
-fn reach(memory: &mut [u32; 1364], task: Task) -> Answer
+fn reach(memory: &mut [u32; WORDS], task: Task) -> Answer
     requires { ⌜ task .0 < 16 ⌝ }
     ensures memory { λ _. ⌜ now (memory .exit) ≡ reachMemory (now (memory .entry)) (task .0) ⌝ }
     ensures answer { λ r. ⌜ r ≡ reachAnswer (now (memory .entry)) (task .0) ⌝ }
@@ -118,7 +119,7 @@ fn reach(memory: &mut [u32; 1364], task: Task) -> Answer
 }
 
 // Step 8: the task's message in flight reaches its destination.
-pub fn take_single(memory: &mut [u32; 1364], task: Task) -> Answer
+pub fn take_single(memory: &mut [u32; WORDS], task: Task) -> Answer
     ensures memory { λ _. ⌜ now (memory .exit) ≡ singleMemory (now (memory .entry)) task ⌝ }
     ensures answer { λ r. ⌜ r ≡ singleAnswer (now (memory .entry)) task ⌝ }
 {

@@ -5,13 +5,16 @@ ghost use Prim.Native.Nat.{_+_, _<_, _≤_, min};
 ghost use mathlib.Core.Bool.{cond};
 ghost use lib.Dec.{ltb};
 ghost use Rattle.lists.specs.Every.{each};
-ghost use Rattle.channel.specs.Layout.{cardsOf, tasksOf, madeOf, countOf, heldCountOf};
+ghost use Rattle.automaton.specs.MostBehind.{mostBehind};
+ghost use Rattle.channel.specs.Layout.{channelWords, cardsOf, tasksOf, madeOf, countOf, heldCountOf};
 ghost use Rattle.channel.specs.Letters.{limitsOf};
 ghost use Rattle.channel.specs.Sized.{blockFits, taggedFits, inboxFits, heldFits, flightFits, broadcastFits, countsFit, cardFits, recentFits, headFits, wellSized};
 use super::layout::CARDS;
+use super::layout::MOST_BEHIND;
 use super::layout::RECENT;
 use super::layout::REGISTERS;
 use super::layout::TASKS;
+use super::layout::WORDS;
 use super::layout::capped;
 use super::layout::cards;
 use super::layout::count_of;
@@ -36,23 +39,23 @@ use names::Task;
 use names::wide;
 
 // Whether a place has a message with no field past its limit.
-fn block_fits(memory: &[u32; 1364], limits: Limits, block: usize) -> bool
-    requires { ⌜ (limits ≡ limitsOf (now memory)) × (block < 1363) ⌝ }
+fn block_fits(memory: &[u32; WORDS], limits: Limits, block: usize) -> bool
+    requires { ⌜ (limits ≡ limitsOf (now memory)) × (block + 1 < channelWords) ⌝ }
     ensures { λ r. ⌜ r ≡ blockFits (now (memory .entry)) (now (memory .entry)) block ⌝ }
 {
     word_fits(limits, memory[block])
 }
 
 // Whether its tag is not past its limit either.
-fn tagged_fits(memory: &[u32; 1364], limits: Limits, block: usize) -> bool
-    requires { ⌜ (limits ≡ limitsOf (now memory)) × (block < 1362) ⌝ }
+fn tagged_fits(memory: &[u32; WORDS], limits: Limits, block: usize) -> bool
+    requires { ⌜ (limits ≡ limitsOf (now memory)) × (block + 2 < channelWords) ⌝ }
     ensures { λ r. ⌜ r ≡ taggedFits (now (memory .entry)) block ⌝ }
 {
     block_fits(memory, limits, block) & (tag_at(memory, block).0 <= 65535)
 }
 
 // Whether place k of a card's inbox is in order.
-fn inbox_fits(memory: &[u32; 1364], limits: Limits, card: Card, k: u32) -> bool
+fn inbox_fits(memory: &[u32; WORDS], limits: Limits, card: Card, k: u32) -> bool
     requires { ⌜ (limits ≡ limitsOf (now memory)) × (card .0 < 8) × (k < 48) ⌝ }
     ensures { λ r. ⌜ r ≡ inboxFits (now (memory .entry)) (card .0) k ⌝ }
 {
@@ -60,7 +63,7 @@ fn inbox_fits(memory: &[u32; 1364], limits: Limits, card: Card, k: u32) -> bool
 }
 
 // Whether place k of what is held for a card is in order.
-fn held_fits(memory: &[u32; 1364], limits: Limits, card: Card, k: usize) -> bool
+fn held_fits(memory: &[u32; WORDS], limits: Limits, card: Card, k: usize) -> bool
     requires { ⌜ (limits ≡ limitsOf (now memory)) × (card .0 < 8) × (k < 16) ⌝ }
     ensures { λ r. ⌜ r ≡ heldFits (now (memory .entry)) (card .0) k ⌝ }
 {
@@ -68,7 +71,7 @@ fn held_fits(memory: &[u32; 1364], limits: Limits, card: Card, k: usize) -> bool
 }
 
 // Whether a task's flight slot is in order.
-fn flight_fits(memory: &[u32; 1364], limits: Limits, task: Task) -> bool
+fn flight_fits(memory: &[u32; WORDS], limits: Limits, task: Task) -> bool
     requires { ⌜ (limits ≡ limitsOf (now memory)) × (task .0 < 16) ⌝ }
     ensures { λ r. ⌜ r ≡ flightFits (now (memory .entry)) (task .0) ⌝ }
 {
@@ -81,8 +84,8 @@ fn flight_fits(memory: &[u32; 1364], limits: Limits, task: Task) -> bool
 }
 
 // Whether the broadcast at a place is in order.
-fn broadcast_fits(memory: &[u32; 1364], limits: Limits, place: usize) -> bool
-    requires { ⌜ (limits ≡ limitsOf (now memory)) × (place < 64) ⌝ }
+fn broadcast_fits(memory: &[u32; WORDS], limits: Limits, place: usize) -> bool
+    requires { ⌜ (limits ≡ limitsOf (now memory)) × (place < mostBehind) ⌝ }
     ensures { λ r. ⌜ r ≡ broadcastFits (now (memory .entry)) place ⌝ }
 {
     let block = RECENT + place * 2;
@@ -91,21 +94,21 @@ fn broadcast_fits(memory: &[u32; 1364], limits: Limits, place: usize) -> bool
 }
 
 // Whether a card's counts are in order.
-fn counts_fit(memory: &[u32; 1364], card: Card) -> bool
+fn counts_fit(memory: &[u32; WORDS], card: Card) -> bool
     requires { ⌜ card .0 < 8 ⌝ }
     ensures { λ r. ⌜ r ≡ countsFit (now (memory .entry)) (card .0) ⌝ }
 {
     let taken = wide(taken_of(memory, card).0);
     let last = wide(made(memory).0);
     (taken <= last)
-        & (last <= taken + 64)
+        & (last <= taken + MOST_BEHIND as usize)
         & (head_of(memory, card) < 48)
         & (count_of(memory, card) <= 48)
         & (held_of(memory, card) <= 16)
 }
 
 // Whether a card's inbox is in order.
-fn inbox_all(memory: &[u32; 1364], limits: Limits, card: Card) -> bool
+fn inbox_all(memory: &[u32; WORDS], limits: Limits, card: Card) -> bool
     requires { ⌜ (limits ≡ limitsOf (now memory)) × (card .0 < 8) ⌝ }
     ensures { λ r. ⌜ r ≡ each (min (countOf (now (memory .entry)) (card .0)) 48) (inboxFits (now (memory .entry)) (card .0)) ⌝ }
 {
@@ -120,7 +123,7 @@ fn inbox_all(memory: &[u32; 1364], limits: Limits, card: Card) -> bool
 }
 
 // Whether what is held for a card is in order.
-fn held_all(memory: &[u32; 1364], limits: Limits, card: Card) -> bool
+fn held_all(memory: &[u32; WORDS], limits: Limits, card: Card) -> bool
     requires { ⌜ (limits ≡ limitsOf (now memory)) × (card .0 < 8) ⌝ }
     ensures { λ r. ⌜ r ≡ each (min (heldCountOf (now (memory .entry)) (card .0)) 16) (heldFits (now (memory .entry)) (card .0)) ⌝ }
 {
@@ -135,7 +138,7 @@ fn held_all(memory: &[u32; 1364], limits: Limits, card: Card) -> bool
 }
 
 // Whether a card's part is in order.
-fn card_fits(memory: &[u32; 1364], limits: Limits, card: Card) -> bool
+fn card_fits(memory: &[u32; WORDS], limits: Limits, card: Card) -> bool
     requires { ⌜ (limits ≡ limitsOf (now memory)) × (card .0 < 8) ⌝ }
     ensures { λ r. ⌜ r ≡ cardFits (now (memory .entry)) (card .0) ⌝ }
 {
@@ -143,7 +146,7 @@ fn card_fits(memory: &[u32; 1364], limits: Limits, card: Card) -> bool
 }
 
 // Whether every card's part is in order.
-fn card_all(memory: &[u32; 1364], limits: Limits) -> bool
+fn card_all(memory: &[u32; WORDS], limits: Limits) -> bool
     requires { ⌜ limits ≡ limitsOf (now memory) ⌝ }
     ensures { λ r. ⌜ r ≡ each (cardsOf (now (memory .entry))) (cardFits (now (memory .entry))) ⌝ }
 {
@@ -158,7 +161,7 @@ fn card_all(memory: &[u32; 1364], limits: Limits) -> bool
 }
 
 // Whether every task's flight slot is in order.
-fn flight_all(memory: &[u32; 1364], limits: Limits) -> bool
+fn flight_all(memory: &[u32; WORDS], limits: Limits) -> bool
     requires { ⌜ limits ≡ limitsOf (now memory) ⌝ }
     ensures { λ r. ⌜ r ≡ each (tasksOf (now (memory .entry))) (flightFits (now (memory .entry))) ⌝ }
 {
@@ -173,23 +176,23 @@ fn flight_all(memory: &[u32; 1364], limits: Limits) -> bool
     true
 }
 
-// The first place in use among the last 64 broadcasts: 1 while fewer than 64 are made, for place 0 is number 64's.
+// The first place in use among the last broadcasts: 1 until the ring is full, for place 0 is used last.
 fn first_recent(made: BroadcastNumber) -> usize
-    ensures { λ r. ⌜ (r ≡ cond (ltb (made .0) 64) 1 0) × (r + min (made .0) 64 ≤ 64) ⌝ }
+    ensures { λ r. ⌜ (r ≡ cond (ltb (made .0) mostBehind) 1 0) × (r + min (made .0) mostBehind ≤ mostBehind) ⌝ }
 {
-    if made.0 < 64 {
+    if made.0 < MOST_BEHIND {
         return 1;
     }
     0
 }
 
-// Whether the last 64 broadcasts are in order. Their places are taken as they lie, not by number, so that they are read one after another.
-fn recent_all(memory: &[u32; 1364], limits: Limits) -> bool
+// Whether the last broadcasts are in order. Their places are taken as they lie, not by number, so that they are read one after another.
+fn recent_all(memory: &[u32; WORDS], limits: Limits) -> bool
     requires { ⌜ limits ≡ limitsOf (now memory) ⌝ }
-    ensures { λ r. ⌜ r ≡ each (min (madeOf (now (memory .entry))) 64) (recentFits (now (memory .entry))) ⌝ }
+    ensures { λ r. ⌜ r ≡ each (min (madeOf (now (memory .entry))) mostBehind) (recentFits (now (memory .entry))) ⌝ }
 {
     let last = made(memory);
-    let n = wide(capped(last.0, 64));
+    let n = wide(capped(last.0, MOST_BEHIND));
     let first = first_recent(last);
     let mut all = true;
     let mut k: usize = 0;
@@ -201,7 +204,7 @@ fn recent_all(memory: &[u32; 1364], limits: Limits) -> bool
 }
 
 // Whether the sizes and the number of broadcasts made are in range.
-fn head_fits(memory: &[u32; 1364]) -> bool
+fn head_fits(memory: &[u32; WORDS]) -> bool
     ensures { λ r. ⌜ r ≡ headFits (now (memory .entry)) ⌝ }
 {
     let last = made(memory);
@@ -209,7 +212,7 @@ fn head_fits(memory: &[u32; 1364]) -> bool
 }
 
 // Whether the memory is well sized; else a step is refused with 6.
-pub fn well_sized(memory: &[u32; 1364]) -> bool
+pub fn well_sized(memory: &[u32; WORDS]) -> bool
     ensures { λ r. ⌜ r ≡ wellSized (now (memory .entry)) ⌝ }
 {
     let limits = limits_of(memory);

@@ -45,7 +45,7 @@ fn value(received: Received) -> u32 {
     }
 }
 
-fn take_all(memory: &mut [u32; 1364]) {
+fn take_all(memory: &mut [u32; channel::WORDS]) {
     let mut i: u32 = 0;
     while i < 8 {
         channel::take_broadcast(memory, Card(i));
@@ -58,7 +58,7 @@ fn add(x: u32, y: u32) -> u32 {
 }
 
 // A broadcast from card 0 to cards 0, 1 and 2, which all eight take; then a single message from card 1 to card 2.
-fn round(memory: &mut [u32; 1364], i: u32, sum: u32) -> u32 {
+fn round(memory: &mut [u32; channel::WORDS], i: u32, sum: u32) -> u32 {
     channel::dispatch(memory, Card(0), packet(i, 7));
     take_all(memory);
     let a = value(channel::receive(memory, Card(0)));
@@ -71,7 +71,7 @@ fn round(memory: &mut [u32; 1364], i: u32, sum: u32) -> u32 {
 }
 
 // As many rounds as there are broadcast numbers for, nearly.
-fn rounds(memory: &mut [u32; 1364], start: u32) -> u32 {
+fn rounds(memory: &mut [u32; channel::WORDS], start: u32) -> u32 {
     channel::begin(memory, 8, 16, 32);
     let mut sum: u32 = start;
     let mut i: u32 = 0;
@@ -82,7 +82,7 @@ fn rounds(memory: &mut [u32; 1364], start: u32) -> u32 {
     sum
 }
 
-fn sum_of_all(memory: &mut [u32; 1364]) -> u32 {
+fn sum_of_all(memory: &mut [u32; channel::WORDS]) -> u32 {
     let mut sum: u32 = 0;
     let mut k: u32 = 0;
     while k < 8 {
@@ -93,7 +93,7 @@ fn sum_of_all(memory: &mut [u32; 1364]) -> u32 {
 }
 
 fn main() {
-    let mut memory = [0u32; 1364];
+    let mut memory = [0u32; channel::WORDS];
     let sum = sum_of_all(&mut memory);
     let mut page = io::large_buffer();
     let a = console::count(&mut page, 0, sum);

@@ -1,7 +1,7 @@
 -- What the channel keeps while its steps are taken: only messages for one card are in flight or held, no inbox has more than 32 undelivered
--- broadcasts, and no card is more than 64 behind.
+-- broadcasts, and no card is too far behind.
 use Prim.Native.Nat.{suc, ℕ, _+_, _<_, _≤_}
-use borrow.Author.Tests.{eqb-true, leb-false, leb-true}
+use borrow.Author.Tests.{eqb-true, leb-false}
 use lib.Dec.{eqb, leb, ltb}
 use lib.ListN.{length, length-append}
 use mathlib.Core.Bool.{Bool, cond, false, false≢true, true, _&&_}
@@ -21,6 +21,8 @@ use Rattle.lists.specs.Queues.{pop, push, push-cases}
 use Rattle.claims.proofs.Stable.{hold}
 use Rattle.claims.specs.Published.{mail}
 use Rattle.automaton.specs.State as C
+use Rattle.automaton.specs.MostBehind.{mostBehind, keepsUp}
+use Rattle.automaton.proofs.KeepsUp.{kept-up}
 
 module _ {M : Type 0} where
   kept-sub : (n : ℕ) (x : Tagged M) (l : List (Tagged M)) → In x (kept n l) → In x l
@@ -68,7 +70,7 @@ module _ {M : Type 0} (mail : Mail M) (cards : ℕ) where
     pub flying : (c : ℕ) (x : Tagged M) → w .flight c ≡ some x → mail .multi (x .msg) ≡ false
     pub holding : (i : ℕ) (x : Tagged M) → In x (w .held i) → mail .multi (x .msg) ≡ false
     pub few : (i : ℕ) → length (filter (mail .multi) (w .inbox i)) ≤ 32
-    pub near : (i : ℕ) → i < cards → length (w .sent) ≤ w .taken i + 64
+    pub near : (i : ℕ) → i < cards → length (w .sent) ≤ w .taken i + mostBehind
 
   pub modest-start : Modest initialChannel
   modest-start = record {
@@ -84,7 +86,7 @@ module _ {M : Type 0} (mail : Mail M) (cards : ℕ) where
     modest-dispatch i m e = go (mail .multi m) refl e
       where
         behind : ℕ → Bool
-        behind j = leb (suc (length (w .sent))) (w .taken j + 64)
+        behind j = keepsUp (suc (length (w .sent))) (w .taken j)
 
         all-near : (t u : Bool) → cond t (otherwise 6 u) 34 ≡ 0 → t ≡ true
         all-near true u q = refl
@@ -96,7 +98,7 @@ module _ {M : Type 0} (mail : Mail M) (cards : ℕ) where
           holding = a .holding;
           few = a .few;
           near = λ j h.
-              let l = leb-true (suc (length (w .sent))) (w .taken j + 64) (each-at cards behind (all-near (each cards behind) (ltb (length (w .sent)) 65535) q) j h) in
+              let l = kept-up (suc (length (w .sent))) (w .taken j) (each-at cards behind (all-near (each cards behind) (ltb (length (w .sent)) 65535) q) j h) in
               let z = length-append (w .sent) (m ∷ []) in
               omega arith;
         }
@@ -137,10 +139,10 @@ module _ {M : Type 0} (mail : Mail M) (cards : ℕ) where
             go true h = a .holding j x (kept-sub n x (w .held j) h)
             go false h = a .holding j x h
 
-        close : (j : ℕ) → j < cards → length (w .sent) ≤ cond (eqb j i) (suc (w .taken j)) (w .taken j) + 64
+        close : (j : ℕ) → j < cards → length (w .sent) ≤ cond (eqb j i) (suc (w .taken j)) (w .taken j) + mostBehind
         close j h = go (eqb j i) (a .near j h)
           where
-            go : (t : Bool) → length (w .sent) ≤ w .taken j + 64 → length (w .sent) ≤ cond t (suc (w .taken j)) (w .taken j) + 64
+            go : (t : Bool) → length (w .sent) ≤ w .taken j + mostBehind → length (w .sent) ≤ cond t (suc (w .taken j)) (w .taken j) + mostBehind
             go true l = omega arith
             go false l = l
 

@@ -1,5 +1,5 @@
 -- A decoded step is refused with a number only in the plain terms of that number (specs/Numbers): with `comes-only`, exactly then.
-use Prim.Native.Nat.{suc, zero, ℕ, _+_, _≤_}
+use Prim.Native.Nat.{suc, zero, ℕ, _≤_}
 use borrow.Author.Tests.{leb-false, leb-true, ltb-false}
 use lib.Dec.{leb, ltb}
 use lib.ListN.{length}
@@ -12,6 +12,8 @@ use native.Mathlib.Omega.{arith}
 use Rattle.lists.specs.Places.{nth}
 use Rattle.automaton.specs.Refusals.{broadcastRefusal, flightRefusal, otherwise, singleRefusal, takeRefusal}
 use Rattle.automaton.specs.State.{ChannelState, Tagged}
+use Rattle.automaton.specs.MostBehind.{keepsUp}
+use Rattle.automaton.proofs.KeepsUp.{kept-up, fell-behind}
 use Rattle.lists.specs.Every.{each, each-at, each-failing}
 use Rattle.names.specs.CardSet.{memberOf, several, soleOf}
 use Rattle.names.specs.Placement.{Placement, copy, holders, home}
@@ -127,14 +129,14 @@ module _ (P : Placement) (s : Published) where
   at-dispatch i (m ∷ r) e z = go (several (m .to)) refl (w .flight (m .task)) refl z
     where
       behind : ℕ → Bool
-      behind j = leb (suc (length (w .sent))) (w .taken j + 64)
+      behind j = keepsUp (suc (length (w .sent))) (w .taken j)
 
       cast : several (m .to) ≡ true → (t : Bool) → each (P .cards) behind ≡ t → Right (cond t (otherwise 6 (ltb (length (w .sent)) 65535)) 34) (K.dispatch i)
       cast u true q z = otherwise-right 6 (K.dispatch i) (ltb (length (w .sent)) 65535)
-          (λ x. last-broadcast m r e u (λ j l. leb-true (suc (length (w .sent))) (w .taken j + 64) (each-at (P .cards) behind q j l)) (ltb-false _ _ x)) z
+          (λ x. last-broadcast m r e u (λ j l. kept-up (suc (length (w .sent))) (w .taken j) (each-at (P .cards) behind q j l)) (ltb-false _ _ x)) z
       cast u false q z =
           let f = each-failing (P .cards) behind q in
-          let h = leb-false (suc (length (w .sent))) (w .taken (f .0) + 64) (f .2) in
+          let h = fell-behind (suc (length (w .sent))) (w .taken (f .0)) (f .2) in
           far-behind m r (f .0) e u (f .1) (omega arith)
 
       go : (t : Bool) → several (m .to) ≡ t → (o : Option (Tagged Letter)) → w .flight (m .task) ≡ o → Right (cond t (broadcastRefusal mail (P .cards) w) (flightRefusal mail (P .cards) o)) (K.dispatch i)

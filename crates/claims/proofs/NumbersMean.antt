@@ -12,6 +12,8 @@ use native.Mathlib.Omega.{arith}
 use Rattle.lists.specs.Places.{nth}
 use Rattle.automaton.specs.Refusals.{broadcastRefusal, flightRefusal, otherwise, singleRefusal, takeRefusal}
 use Rattle.automaton.specs.State.{ChannelState}
+use Rattle.automaton.specs.MostBehind.{mostBehind, keepsUp}
+use Rattle.automaton.proofs.KeepsUp.{keeps-up, falls-behind}
 use Rattle.lists.specs.Every.{each, each-fails, each-of}
 use Rattle.lists.specs.Tests.{and-false}
 use Rattle.names.specs.CardSet.{memberOf, soleOf}
@@ -73,9 +75,9 @@ module _ (P : Placement) where
     abbrev w : ChannelState Letter
     w = s .channel
 
-    -- no card is 64 behind
-    near : ((j : ℕ) → j < P .cards → made P s < w .taken j + 64) → each (P .cards) (λ j. leb (suc (length (w .sent))) (w .taken j + 64)) ≡ true
-    near h = each-of (P .cards) (λ j. leb (suc (length (w .sent))) (w .taken j + 64)) (λ j l. let g = h j l in le-leb (suc (length (w .sent))) (w .taken j + 64) g)
+    -- no card is as far behind as it may be
+    near : ((j : ℕ) → j < P .cards → made P s < w .taken j + mostBehind) → each (P .cards) (λ j. keepsUp (suc (length (w .sent))) (w .taken j)) ≡ true
+    near h = each-of (P .cards) (λ j. keepsUp (suc (length (w .sent))) (w .taken j)) (λ j l. let g = h j l in keeps-up (suc (length (w .sent))) (w .taken j) g)
 
     pub not-crowded : (i : ℕ) (m : Letter) → (memberOf (m .to) i ≡ false) ⊎ (undelivered P s i < 32) → (memberOf (m .to) i && leb 32 (undelivered P s i)) ≡ false
     not-crowded i m (inl e) = ap (λ t. t && leb 32 (undelivered P s i)) e
@@ -108,7 +110,7 @@ module _ (P : Placement) where
         ap (headRefusal P mail (answered P) w) e
         ∙ ap (λ t. cond t (broadcastRefusal mail (P .cards) w) (flightRefusal mail (P .cards) (w .flight (m .task)))) u
         ∙ ap (λ t. cond t (otherwise 6 (ltb (length (w .sent)) 65535)) 34)
-        (each-fails (P .cards) (λ k. leb (suc (length (w .sent))) (w .taken k + 64)) j l (lt-leb (suc (length (w .sent))) (w .taken j + 64) (omega arith)))
+        (each-fails (P .cards) (λ k. keepsUp (suc (length (w .sent))) (w .taken k)) j l (falls-behind (suc (length (w .sent))) (w .taken j) (omega arith)))
     comes-only (crowded {i} m e u h) =
         ap (takeRefusal mail (P .cards) w i) e
         ∙ ap₂ (λ a b. cond (a && b) 35 (otherwise 6 (leb (length (inboxAfter P s i m)) 48))) u (le-leb 32 (undelivered P s i) h)

@@ -10,6 +10,7 @@ use native.Mathlib.Omega.{arith}
 use Rattle.lists.specs.Places.{nth}
 use Rattle.automaton.specs.Refusals.{flightRefusal, otherwise, singleRefusal, takeRefusal}
 use Rattle.automaton.specs.State.{ChannelState, Tagged, released}
+use Rattle.automaton.specs.MostBehind.{keepsUp}
 use Rattle.lists.specs.Every.{each}
 use Rattle.lists.specs.Filters.{filter}
 use Rattle.lists.specs.Queues.{push}
@@ -81,7 +82,7 @@ module _ (P : Placement) where
   dispatches-if w (m ∷ r) = go (mail .multi m) (w .flight (m .task))
     where
       A : Bool
-      A = each (P .cards) (λ i. leb (suc (length (w .sent))) (w .taken i + 64))
+      A = each (P .cards) (λ i. keepsUp (suc (length (w .sent))) (w .taken i))
 
       B : Bool
       B = ltb (length (w .sent)) 65535

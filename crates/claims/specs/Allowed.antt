@@ -12,6 +12,7 @@ use Rattle.lists.specs.Queues.{push}
 use Rattle.lists.specs.Places.{nth}
 use Rattle.names.specs.Placement.{Placement, home, holders, copy}
 use Rattle.automaton.specs.State.{ChannelState, Tagged, released}
+use Rattle.automaton.specs.MostBehind.{mostBehind}
 use Rattle.claims.specs.Command.{Command, request-read, request-update, perform, send-read, send-update, dispatch, takeBroadcast, takeSingle, deliver, report}
 use Rattle.claims.specs.Refusals.{alone}
 use Rattle.claims.specs.Published.{Doing, quiet, askingRead, askingUpdate, waiting, doneRead, doneUpdate, Letter, Published, mail, answered}
@@ -96,12 +97,12 @@ module _ (P : Placement) where
   updateFits l (doneRead v) = true
   updateFits l doneUpdate = true
 
-  -- no card more than 64 behind (RULES 7.5), at most 65,535 broadcasts (7.7); at most one message of a task in flight (7.4)
+  -- no card more than `mostBehind` behind (RULES 7.5), at most 65,535 broadcasts (7.7); at most one message of a task in flight (7.4)
   abbrev pub dispatchFits : ChannelState Letter → List Letter → Bool
   dispatchFits w [] = true
   dispatchFits w (m ∷ r) =
       cond (mail .multi m)
-      (each (P .cards) (λ i. leb (suc (length (w .sent))) (w .taken i + 64)) && ltb (length (w .sent)) 65535)
+      (each (P .cards) (λ i. leb (suc (length (w .sent))) (w .taken i + mostBehind)) && ltb (length (w .sent)) 65535)
       (not (isThere (w .flight (m .task))))
 
   -- at most 32 undelivered broadcasts (RULES 7.6), and 48 messages in an inbox (7.2)

@@ -6,6 +6,7 @@ use lib.ListN.{length}
 use Rattle.lists.specs.Filters.{filter}
 use Rattle.automaton.specs.Mail.{Mail}
 use Rattle.automaton.specs.State.{Tagged}
+use Rattle.automaton.specs.MostBehind.{mostBehind}
 use Rattle.claims.specs.Refusals.{Sight}
 
 module _ {M : Type 0} (mail : Mail M) (cards : ℕ) where
@@ -20,5 +21,5 @@ module _ {M : Type 0} (mail : Mail M) (cards : ℕ) where
     -- broadcasts made are at most the requests taken
     pub broadcasts : length (s .channel .sent) ≤ s .requests
     pub requests : s .requests ≤ 65535
-    -- the broadcasts that a card has taken are neither above those made nor more than 64 below
-    pub counts : (i : ℕ) → i < cards → (s .channel .taken i ≤ length (s .channel .sent)) × (length (s .channel .sent) ≤ s .channel .taken i + 64)
+    -- the broadcasts that a card has taken are neither above those made nor more than `mostBehind` below
+    pub counts : (i : ℕ) → i < cards → (s .channel .taken i ≤ length (s .channel .sent)) × (length (s .channel .sent) ≤ s .channel .taken i + mostBehind)

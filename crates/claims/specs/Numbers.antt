@@ -14,6 +14,7 @@ use Rattle.lists.specs.Places.{nth}
 use Rattle.names.specs.CardSet.{memberOf, several, soleOf}
 use Rattle.names.specs.Placement.{Placement, tasks, registers, home, holders, copy}
 use Rattle.automaton.specs.State.{Tagged, released}
+use Rattle.automaton.specs.MostBehind.{mostBehind}
 use Rattle.claims.specs.Command.{Command, request-read, request-update, perform, send-read, send-update, dispatch, takeBroadcast, takeSingle, deliver, report}
 use Rattle.claims.specs.Steps.{RawStep}
 use Rattle.claims.specs.Refusals.{alone}
@@ -128,8 +129,8 @@ module _ (P : Placement) (s : Published) where
     no-broadcast : {i : ℕ} → made ≤ taken i → Comes 31 (takeBroadcast i)
     none-in-flight : {c : ℕ} → s .channel .flight c ≡ none → Comes 32 (takeSingle c)
     no-message : {i : ℕ} → s .channel .inbox i ≡ [] → Comes 33 (deliver i)
-    -- 34: the head has more than one destination and card j is 64 behind
-    far-behind : {i : ℕ} (m : Letter) (r : List Letter) (j : ℕ) → s .out i ≡ m ∷ r → several (m .to) ≡ true → j < P .cards → taken j + 64 ≤ made → Comes 34 (dispatch i)
+    -- 34: the head has more than one destination and card j is `mostBehind` behind
+    far-behind : {i : ℕ} (m : Letter) (r : List Letter) (j : ℕ) → s .out i ≡ m ∷ r → several (m .to) ≡ true → j < P .cards → taken j + mostBehind ≤ made → Comes 34 (dispatch i)
     -- 35: the card is a destination and its inbox already has 32 undelivered broadcasts
     crowded : {i : ℕ} (m : Letter) → nth (s .channel .sent) (taken i) ≡ some m → memberOf (m .to) i ≡ true → 32 ≤ undelivered i → Comes 35 (takeBroadcast i)
     -- 6 for the outcome (RULES 8.8): an outbox past 16 (steps 4, 5, 9), a message to nobody, broadcast 65,536, a second message of a task in
@@ -137,7 +138,7 @@ module _ (P : Placement) (s : Published) where
     outbox-full-read : {c j : ℕ} (x : ℕ) → s .status c ≡ askingRead x → copy P x (home P c) ≡ false → copy P x j ≡ true → 16 ≤ length (s .out (home P c)) → Comes 6 (send-read c j)
     nobody : {c : ℕ} (x f w : ℕ) → s .status c ≡ askingUpdate x f w → alone P x (home P c) ≡ false → holders P x ≡ 0 → Comes 6 (send-update c)
     outbox-full-update : {c : ℕ} (x f w : ℕ) → s .status c ≡ askingUpdate x f w → alone P x (home P c) ≡ false → 16 ≤ length (s .out (home P c)) → Comes 6 (send-update c)
-    last-broadcast : {i : ℕ} (m : Letter) (r : List Letter) → s .out i ≡ m ∷ r → several (m .to) ≡ true → ((j : ℕ) → j < P .cards → made < taken j + 64) → 65535 ≤ made → Comes 6 (dispatch i)
+    last-broadcast : {i : ℕ} (m : Letter) (r : List Letter) → s .out i ≡ m ∷ r → several (m .to) ≡ true → ((j : ℕ) → j < P .cards → made < taken j + mostBehind) → 65535 ≤ made → Comes 6 (dispatch i)
     second-in-flight : {i : ℕ} (m : Letter) (r : List Letter) (x : Tagged Letter) → s .out i ≡ m ∷ r → several (m .to) ≡ false → s .channel .flight (m .task) ≡ some x → Comes 6 (dispatch i)
     inbox-full-take : {i : ℕ} (m : Letter) → nth (s .channel .sent) (taken i) ≡ some m → (memberOf (m .to) i ≡ false) ⊎ (undelivered i < 32) → 48 < length (inboxAfter i m) → Comes 6 (takeBroadcast i)
     inbox-full-single : {c : ℕ} (x : Tagged Letter) → s .channel .flight c ≡ some x → x .mark ≤ taken (soleOf (x .msg .to)) → 48 ≤ length (s .channel .inbox (soleOf (x .msg .to))) → Comes 6 (takeSingle c)

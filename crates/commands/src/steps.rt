@@ -150,7 +150,7 @@ fn card_in(argument: [u8; 8]) -> Card
 }
 
 // The command that a code and its argument are to a store with this channel, or their refusal. Each reads the sizes that it needs, no other.
-pub fn decode(channel: &[u32; 1364], code: u8, argument: [u8; 8]) -> Command
+pub fn decode(channel: &[u32; channel::WORDS], code: u8, argument: [u8; 8]) -> Command
     ensures { λ r. ⌜ r ≡ decodeOf code argument (cardsOf (now (channel .entry))) (registersOf (now (channel .entry))) (tasksOf (now (channel .entry))) ⌝ }
 {
     match code {

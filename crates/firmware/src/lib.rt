@@ -30,17 +30,17 @@ pub extern "C" fn gondzselu_registers_words() -> usize
 
 #[no_mangle]
 pub extern "C" fn gondzselu_channel_words() -> usize
-    ensures { λ r. ⌜ r ≡ 1364 ⌝ }
+    ensures { λ r. ⌜ r ≡ 1284 ⌝ }
 {
-    1364
+    channel::WORDS
 }
 
 // The version of what is offered: major * 1,000,000 + minor * 1,000 + patch.
 #[no_mangle]
 pub extern "C" fn gondzselu_version() -> u32
-    ensures { λ r. ⌜ r ≡ 4000 ⌝ }
+    ensures { λ r. ⌜ r ≡ 5000 ⌝ }
 {
-    4000
+    5000
 }
 
 // ---- a whole run
@@ -73,7 +73,7 @@ pub extern "C" fn gondzselu_answer_counted(file: &[u8], out: &mut [u8], tally: &
 #[no_mangle]
 pub extern "C" fn gondzselu_start(
     registers: &mut [u32; 593],
-    channel: &mut [u32; 1364],
+    channel: &mut [u32; channel::WORDS],
     cards: u32,
     homes: &[u8],
     copies: &[u8],
@@ -90,7 +90,7 @@ pub extern "C" fn gondzselu_start(
 #[no_mangle]
 pub extern "C" fn gondzselu_start_file(
     registers: &mut [u32; 593],
-    channel: &mut [u32; 1364],
+    channel: &mut [u32; channel::WORDS],
     file: &[u8],
 ) -> u8
     ensures registers { λ _. ⌜ now (registers .exit) ≡ fileRegisters (now (file .entry)) (now (registers .entry)) ⌝ }
@@ -104,7 +104,7 @@ pub extern "C" fn gondzselu_start_file(
 #[no_mangle]
 pub extern "C" fn gondzselu_step(
     registers: &mut [u32; 593],
-    channel: &mut [u32; 1364],
+    channel: &mut [u32; channel::WORDS],
     code: u8,
     argument: &[u8; 8],
     value: &mut u32,
@@ -145,7 +145,7 @@ fn count_of(result: u8) -> Counts
 
 fn step_counts(
     registers: &mut [u32; 593],
-    channel: &mut [u32; 1364],
+    channel: &mut [u32; channel::WORDS],
     code: u8,
     argument: &[u8; 8],
     value: &mut u32,
@@ -163,7 +163,7 @@ fn step_counts(
 #[no_mangle]
 pub extern "C" fn gondzselu_step_counted(
     registers: &mut [u32; 593],
-    channel: &mut [u32; 1364],
+    channel: &mut [u32; channel::WORDS],
     code: u8,
     argument: &[u8; 8],
     value: &mut u32,
@@ -185,7 +185,7 @@ pub extern "C" fn gondzselu_step_counted(
 #[no_mangle]
 pub extern "C" fn gondzselu_advance(
     registers: &mut [u32; 593],
-    channel: &mut [u32; 1364],
+    channel: &mut [u32; channel::WORDS],
     code: u8,
     argument: &[u8; 8],
     value: &mut u32,
@@ -221,7 +221,7 @@ pub extern "C" fn gondzselu_sentence(step: u32, refusal: u8, out: &mut [u8], len
 #[no_mangle]
 pub extern "C" fn gondzselu_copy(
     registers: &[u32; 593],
-    channel: &[u32; 1364],
+    channel: &[u32; channel::WORDS],
     card: u32,
     register: u32,
 ) -> u32
@@ -233,7 +233,11 @@ pub extern "C" fn gondzselu_copy(
 // What a task is doing: 0 quiet, 1 asking for a read, 2 asking for an update, 3 waiting, 4 done with a read, 5 done with an update. An absent
 // task is quiet.
 #[no_mangle]
-pub extern "C" fn gondzselu_task(registers: &[u32; 593], channel: &[u32; 1364], task: u32) -> u32
+pub extern "C" fn gondzselu_task(
+    registers: &[u32; 593],
+    channel: &[u32; channel::WORDS],
+    task: u32,
+) -> u32
     ensures { λ r. ⌜ r ≡ doingKind (doingShown (now (registers .entry)) (now (channel .entry)) (record { 0 = task })) ⌝ }
 {
     store::kind_of(store::doing_of(registers, channel, Task(task)))
@@ -243,7 +247,7 @@ pub extern "C" fn gondzselu_task(registers: &[u32; 593], channel: &[u32; 1364], 
 #[no_mangle]
 pub extern "C" fn gondzselu_task_value(
     registers: &[u32; 593],
-    channel: &[u32; 1364],
+    channel: &[u32; channel::WORDS],
     task: u32,
 ) -> u32
     ensures { λ r. ⌜ r ≡ doingValue (doingShown (now (registers .entry)) (now (channel .entry)) (record { 0 = task })) ⌝ }
@@ -253,7 +257,7 @@ pub extern "C" fn gondzselu_task_value(
 
 // Broadcasts made.
 #[no_mangle]
-pub extern "C" fn gondzselu_broadcasts(channel: &[u32; 1364]) -> u32
+pub extern "C" fn gondzselu_broadcasts(channel: &[u32; channel::WORDS]) -> u32
     ensures { λ r. ⌜ r ≡ madeOf (now (channel .entry)) ⌝ }
 {
     channel::made(channel).0
@@ -261,7 +265,7 @@ pub extern "C" fn gondzselu_broadcasts(channel: &[u32; 1364]) -> u32
 
 // Broadcasts that a card has taken; 0 for an absent card.
 #[no_mangle]
-pub extern "C" fn gondzselu_broadcasts_taken(channel: &[u32; 1364], card: u32) -> u32
+pub extern "C" fn gondzselu_broadcasts_taken(channel: &[u32; channel::WORDS], card: u32) -> u32
     ensures { λ r. ⌜ r ≡ takenBy (now (channel .entry)) card ⌝ }
 {
     channel::taken(channel, Card(card)).0

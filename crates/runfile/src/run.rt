@@ -23,7 +23,7 @@ use crate::Answered;
 use names::wide;
 
 // Both memories begun from the file's placement.
-fn begin(file: &[u8], registers: &mut [u32; 593], channel: &mut [u32; 1364])
+fn begin(file: &[u8], registers: &mut [u32; 593], channel: &mut [u32; channel::WORDS])
     requires { ⌜ codesAt (now file) ≤ length (now file) ⌝ }
     ensures registers { λ _. ⌜ now (registers .exit) ≡ startRegisters (placementIn (now (file .entry))) (now (registers .entry)) ⌝ }
     ensures channel { λ _. ⌜ now (channel .exit) ≡ startChannel (placementIn (now (file .entry))) (now (channel .entry)) ⌝ }
@@ -43,7 +43,7 @@ fn begin(file: &[u8], registers: &mut [u32; 593], channel: &mut [u32; 1364])
 }
 
 // A store begun from an accepted file: 0, or the refusal of the file and both memories as they were.
-pub fn start(file: &[u8], registers: &mut [u32; 593], channel: &mut [u32; 1364]) -> u8
+pub fn start(file: &[u8], registers: &mut [u32; 593], channel: &mut [u32; channel::WORDS]) -> u8
     ensures registers { λ _. ⌜ now (registers .exit) ≡ fileRegisters (now (file .entry)) (now (registers .entry)) ⌝ }
     ensures channel { λ _. ⌜ now (channel .exit) ≡ fileChannel (now (file .entry)) (now (channel .entry)) ⌝ }
     ensures number { λ r. ⌜ r ≡ fileRefusal (now (file .entry)) ⌝ }
@@ -102,7 +102,7 @@ fn turn(
     file: &[u8],
     out: &mut [u8],
     registers: &mut [u32; 593],
-    channel: &mut [u32; 1364],
+    channel: &mut [u32; channel::WORDS],
     codes: usize,
     arguments: usize,
     n: usize,
@@ -127,7 +127,7 @@ fn go(
     file: &[u8],
     out: &mut [u8],
     registers: &mut [u32; 593],
-    channel: &mut [u32; 1364],
+    channel: &mut [u32; channel::WORDS],
 ) -> Answered
     requires { ⌜ (stepsIn (now file) ≤ 4096) × (fileLength (now file) ≤ length (now file)) × (2 + 5 * stepsIn (now file) ≤ length (now out)) ⌝ }
     ensures counts { λ r. ⌜ r ≡ counted (answerAt (stepIn (now (file .entry))) (stored (now (registers .entry)) (now (channel .entry)))) (stepsIn (now (file .entry))) ⌝ }
@@ -160,7 +160,7 @@ fn whole(file: &[u8], out: &mut [u8]) -> Answered
     ensures output { λ _. ⌜ now (out .exit) ≡ answerOutput (now (file .entry)) (now (out .entry)) ⌝ }
 {
     let mut registers = [0u32; 593];
-    let mut channel = [0u32; 1364];
+    let mut channel = [0u32; channel::WORDS];
     begin(file, &mut registers, &mut channel);
     go(file, out, &mut registers, &mut channel)
 }

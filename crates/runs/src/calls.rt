@@ -17,19 +17,29 @@ fn one(result: u8) -> u32 {
 }
 
 // A step whose argument has one byte and zeros: 1 where it is taken.
-fn checked(registers: &mut [u32; 593], channel: &mut [u32; 1364], code: u8, first: u8) -> u32 {
+fn checked(
+    registers: &mut [u32; 593],
+    channel: &mut [u32; channel::WORDS],
+    code: u8,
+    first: u8,
+) -> u32 {
     let answer = store::step(registers, channel, code, [first, 0, 0, 0, 0, 0, 0, 0]);
     one(answer.result)
 }
 
 // The same by the call that does not check the state again.
-fn unchecked(registers: &mut [u32; 593], channel: &mut [u32; 1364], code: u8, first: u8) -> u32 {
+fn unchecked(
+    registers: &mut [u32; 593],
+    channel: &mut [u32; channel::WORDS],
+    code: u8,
+    first: u8,
+) -> u32 {
     let answer = store::advance(registers, channel, code, [first, 0, 0, 0, 0, 0, 0, 0]);
     one(answer.result)
 }
 
 // Task 0 reads register 0: request, perform, report.
-fn read_once(registers: &mut [u32; 593], channel: &mut [u32; 1364]) -> u32 {
+fn read_once(registers: &mut [u32; 593], channel: &mut [u32; channel::WORDS]) -> u32 {
     let a = checked(registers, channel, 1, 0);
     let b = checked(registers, channel, 3, 0);
     let c = checked(registers, channel, 10, 0);
@@ -37,7 +47,7 @@ fn read_once(registers: &mut [u32; 593], channel: &mut [u32; 1364]) -> u32 {
 }
 
 // As often as there are requests.
-fn read_often(registers: &mut [u32; 593], channel: &mut [u32; 1364]) -> u32 {
+fn read_often(registers: &mut [u32; 593], channel: &mut [u32; channel::WORDS]) -> u32 {
     let mut taken: u32 = 0;
     let mut k: u32 = 0;
     while k < 65535 {
@@ -52,7 +62,7 @@ fn one_more(
     page: &mut [u8; 65536],
     at: usize,
     registers: &mut [u32; 593],
-    channel: &mut [u32; 1364],
+    channel: &mut [u32; channel::WORDS],
 ) -> usize {
     let answer = store::step(registers, channel, 1, [0; 8]);
     let numbers = [store::requests(registers), answer.result as u32];
@@ -62,7 +72,7 @@ fn one_more(
 // One card, one register, one task.
 pub(crate) fn reads(page: &mut [u8; 65536], at: usize) -> usize {
     let mut registers = [0u32; 593];
-    let mut channel = [0u32; 1364];
+    let mut channel = [0u32; channel::WORDS];
     store::start(&mut registers, &mut channel, 1, b"\x00", b"\x01", b"\x00");
     let taken = read_often(&mut registers, &mut channel);
     let text = b"k13    65535 rounds of 3 steps, taken #";
@@ -72,7 +82,7 @@ pub(crate) fn reads(page: &mut [u8; 65536], at: usize) -> usize {
 }
 
 // Task 0 adds 1 to register 0: an update that both cards take and deliver.
-fn broadcast(registers: &mut [u32; 593], channel: &mut [u32; 1364]) -> u32 {
+fn broadcast(registers: &mut [u32; 593], channel: &mut [u32; channel::WORDS]) -> u32 {
     let a = store::advance(registers, channel, 2, [0, 0, 2, 0, 1, 0, 0, 0]);
     let b = unchecked(registers, channel, 5, 0);
     let c = unchecked(registers, channel, 6, 0);
@@ -87,7 +97,7 @@ fn broadcast(registers: &mut [u32; 593], channel: &mut [u32; 1364]) -> u32 {
     )
 }
 
-fn broadcast_often(registers: &mut [u32; 593], channel: &mut [u32; 1364]) -> u32 {
+fn broadcast_often(registers: &mut [u32; 593], channel: &mut [u32; channel::WORDS]) -> u32 {
     let mut taken: u32 = 0;
     let mut k: u32 = 0;
     while k < 65535 {
@@ -101,7 +111,7 @@ fn copies(
     page: &mut [u8; 65536],
     at: usize,
     registers: &[u32; 593],
-    channel: &[u32; 1364],
+    channel: &[u32; channel::WORDS],
 ) -> usize {
     let first = store::value(registers, channel, Card(0), Register(0));
     let second = store::value(registers, channel, Card(1), Register(0));
@@ -111,7 +121,7 @@ fn copies(
 // Two cards with a copy each: broadcast numbers end with the requests.
 pub(crate) fn broadcasts(page: &mut [u8; 65536], at: usize) -> usize {
     let mut registers = [0u32; 593];
-    let mut channel = [0u32; 1364];
+    let mut channel = [0u32; channel::WORDS];
     store::start(&mut registers, &mut channel, 2, b"\x00", b"\x03", b"\x00");
     let taken = broadcast_often(&mut registers, &mut channel);
     let text = b"k13    65535 broadcasts in rounds of 8 steps, taken #";

@@ -33,7 +33,7 @@ inbox-met : length (finalFrom crowd begin inbox-run .channel .inbox 1) ≡ 48
 unfolding decode known unnamedZero taskThere registerThere cardThere functionThere knownFunction namesTask namesCard namesRegister namesChosen namesFunction operand commandOf each memberOf several single sizeOf soleOf justOf total turns updated raised largerOf sumOf eqb leb
 inbox-met = refl
 
-k11-results : map (λ a. a .result) (answersFrom crowd begin k11) ≡ thenRefused 386 34
+k11-results : map (λ a. a .result) (answersFrom crowd begin k11) ≡ thenRefused 146 34
 unfolding decode known unnamedZero taskThere registerThere cardThere functionThere knownFunction namesTask namesCard namesRegister namesChosen namesFunction operand commandOf each memberOf several single sizeOf soleOf justOf total turns updated raised largerOf sumOf eqb leb
 k11-results = refl
 

@@ -3,24 +3,24 @@ use Prim.Native.Nat.{ℕ, suc, _+_, _<_, _≤_}
 use mathlib.Core.Path.{_≡_, refl}
 use mathlib.Core.Bool.{Bool, true, false}
 use native.Mathlib.Omega.{arith}
-use borrow.Author.Tests.{leb-true, le-leb}
-use lib.Dec.{leb}
 use lib.ListN.{length}
 use Rattle.lists.specs.Tests.{false-of}
 use Rattle.lists.specs.Every.{each, each-at, each-of}
 use Rattle.names.specs.Placement.{Placement}
+use Rattle.automaton.specs.MostBehind.{mostBehind, keepsUp}
+use Rattle.automaton.proofs.KeepsUp.{keeps-up, kept-up}
 use Rattle.claims.specs.Published.{Published}
 use Rattle.store.specs.LimitSteps.{Near, LimitSteps}
 
 module _ (P : Placement) (s : Published) where
   abbrev near-test : ℕ → Bool
-  near-test j = leb (suc (length (s .channel .sent))) (s .channel .taken j + 64)
+  near-test j = keepsUp (suc (length (s .channel .sent))) (s .channel .taken j)
 
   near : Near P s → each (P .cards) near-test ≡ true
-  near h = each-of (P .cards) near-test (λ j c. le-leb _ _ (h j c))
+  near h = each-of (P .cards) near-test (λ j c. keeps-up _ _ (h j c))
 
-  far : (j : ℕ) → j < P .cards → length (s .channel .sent) ≡ s .channel .taken j + 64 → each (P .cards) near-test ≡ false
-  far j c e = false-of _ (λ t. let l : suc (length (s .channel .sent)) ≤ s .channel .taken j + 64 = leb-true _ _ (each-at (P .cards) near-test t j c) in omega arith)
+  far : (j : ℕ) → j < P .cards → length (s .channel .sent) ≡ s .channel .taken j + mostBehind → each (P .cards) near-test ≡ false
+  far j c e = false-of _ (λ t. let l : suc (length (s .channel .sent)) ≤ s .channel .taken j + mostBehind = kept-up _ _ (each-at (P .cards) near-test t j c) in omega arith)
 
   pub limit-steps : LimitSteps P s
   limit-steps = record {

@@ -8,7 +8,7 @@ use lib.ListN.{length}
 use Rattle.names.specs.declared.Letter.{Letter}
 use Rattle.automaton.specs.State.{ChannelState, ChannelAction, channelStep}
 use Rattle.automaton.specs.Refusals.{channelRefusal}
-use Rattle.channel.specs.Layout.{cardsOf}
+use Rattle.channel.specs.Layout.{channelWords, cardsOf}
 use Rattle.channel.specs.Sized.{wellSized}
 use Rattle.channel.specs.Shows.{letterMail}
 use Rattle.automaton.specs.Renaming.{action-map, Alike}
@@ -24,7 +24,7 @@ pub record Goes (cs : List ℕ) (w : ChannelState Pub.Letter) (x : ChannelAction
   pub shows : n ≡ 0 → ChannelShows ds (channelStep mail w x)
   pub untouched : n ≢ 0 → ds ≡ cs
   pub sized : wellSized ds ≡ true
-  pub long : length ds ≡ 1364
+  pub long : length ds ≡ channelWords
   pub sizes : SameSizes ds cs
 
 alike : Alike plain letterMail mail

@@ -10,7 +10,7 @@ use lib.ListN.{length}
 use Rattle.lists.specs.Tests.{and-fst, and-snd, and-intro, clash}
 use Rattle.lists.specs.Listings.{listing-length}
 use Rattle.names.specs.Placement.{Placement, tasks, registers, home, copy}
-use Rattle.channel.specs.Layout.{cardsOf, tasksOf, registersOf}
+use Rattle.channel.specs.Layout.{channelWords, cardsOf, tasksOf, registersOf}
 use Rattle.channel.specs.Sized.{wellSized}
 use Rattle.claims.specs.Command.{Command}
 use Rattle.claims.specs.Steps.{good}
@@ -27,7 +27,7 @@ use Rattle.tables.proofs.Sizing.{RegistersFit, fit-of, of-fit}
 -- the two memories, part by part
 pub record Ready (rs cs : List ℕ) (P : Placement) (s : Published) : Type 0 where
   pub long : length rs ≡ 593
-  pub channel-long : length cs ≡ 1364
+  pub channel-long : length cs ≡ channelWords
   pub fit : RegistersFit rs cs
   pub channel-fit : wellSized cs ≡ true
   pub cards= : P .cards ≡ cardsOf cs

@@ -14,7 +14,7 @@ use Rattle.names.specs.declared.Letter.{Letter}
 use Rattle.names.specs.Letters.{packetAt}
 use Rattle.names.specs.Placement.{Placement}
 use Rattle.automaton.specs.State.{ChannelState, ChannelAction, dispatch, takeBroadcast, takeSingle, channelStep}
-use Rattle.channel.specs.Layout.{cardsOf, tasksOf, registersOf}
+use Rattle.channel.specs.Layout.{channelWords, cardsOf, tasksOf, registersOf}
 use Rattle.channel.specs.Letters.{fits}
 use Rattle.channel.specs.Answers.{answerNumber}
 use Rattle.channel.specs.Dispatch.{dispatchAnswer, dispatchMemory}
@@ -78,7 +78,7 @@ fit-sizes rs ds cs e f =
 -- memories whose channel is another of the same sizes
 pub channel-ready : (rs us cs ds : List ℕ) (P : Placement) (s u : Published) → Ready rs cs P s → length us ≡ 593 → RegistersFit us cs
     → RegistersShow us (cardsOf cs) (tasksOf cs) (registersOf cs) P u
-    → wellSized ds ≡ true → length ds ≡ 1364 → SameSizes ds cs → ChannelShows ds (u .channel) → Ready us ds P u
+    → wellSized ds ≡ true → length ds ≡ channelWords → SameSizes ds cs → ChannelShows ds (u .channel) → Ready us ds P u
 channel-ready rs us cs ds P s u z l f v ok dl e w =
     let c = same-cards ds cs e in
     let t = same-tasks ds cs e in

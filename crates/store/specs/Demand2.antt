@@ -7,6 +7,7 @@ use mathlib.Core.Bool.{false, true}
 use mathlib.Core.List.{List}
 use lib.ListN.{length}
 use Rattle.names.specs.Placement.{Placement}
+use Rattle.channel.specs.Layout.{channelWords}
 use Rattle.claims.specs.Steps.{RawStep, Decoded, decode}
 use Rattle.claims.specs.Published.{Published}
 use Rattle.claims.specs.PublishedRun.{answerDecoded, afterDecoded}
@@ -17,7 +18,7 @@ use Rattle.tables.specs.Shows.{StoreShows}
 -- well-sized memories that show the placement and the state
 pub record Stands (rs cs : List ℕ) (P : Placement) (s : Published) : Type 0 where
   pub long : length rs ≡ 593
-  pub channel-long : length cs ≡ 1364
+  pub channel-long : length cs ≡ channelWords
   pub sized : storeSized rs cs ≡ true
   pub shows : StoreShows rs cs P s
 

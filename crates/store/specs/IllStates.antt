@@ -9,6 +9,7 @@ use lib.ListN.{getD}
 use Rattle.names.specs.declared.Register.{Register}
 use Rattle.names.specs.CardSet.{several, single}
 use Rattle.names.specs.Letters.{letterAt, tagAt}
+use Rattle.automaton.specs.MostBehind.{mostBehind}
 use Rattle.channel.specs.Layout.{cardsWord, tasksWord, registersWord, cardsOf, tasksOf, registersOf, madeOf, takenOf, headOf, countOf, heldCountOf, placeOf, heldBlock, flightBlock, broadcastBlock}
 use Rattle.channel.specs.TakeSingle.{noFlight}
 use Rattle.channel.specs.IllSized.{PastBlock}
@@ -45,19 +46,19 @@ pub data IllSized (rs cs : List ℕ) : Type 0 where
   update : (t : ℕ) (x : Register) (f w : ℕ) → t < tasksOf cs → doingAt rs t ≡ AskingUpdate x f w → registersOf cs ≤ x .0 → IllSized rs cs
   no-function : (t : ℕ) (x : Register) (w : ℕ) → t < tasksOf cs → doingAt rs t ≡ AskingUpdate x 0 w → IllSized rs cs
   function : (t : ℕ) (x : Register) (f w : ℕ) → t < tasksOf cs → doingAt rs t ≡ AskingUpdate x f w → 5 < f → IllSized rs cs
-  -- f, i: of a message in an outbox, in an inbox, held, in flight, or among the last 64 broadcasts, one rule for all: its fields, and that it has
+  -- f, i: of a message in an outbox, in an inbox, held, in flight, or among the last broadcasts, one rule for all: its fields, and that it has
   -- a kind and a destination
   out-message : (i k : ℕ) → i < cardsOf cs → k < outCountOf rs i → PastBlock cs rs (outPlace rs i k) → IllSized rs cs
   inbox-message : (i k : ℕ) → i < cardsOf cs → k < countOf cs i → PastBlock cs cs (placeOf cs i k) → IllSized rs cs
   held-message : (i k : ℕ) → i < cardsOf cs → k < heldCountOf cs i → PastBlock cs cs (heldBlock i k) → IllSized rs cs
   flight-message : (t : ℕ) → t < tasksOf cs → noFlight cs t ≡ false → PastBlock cs cs (flightBlock t) → IllSized rs cs
-  broadcast-message : (k : ℕ) → k < madeOf cs → k < 64 → PastBlock cs cs (broadcastBlock (madeOf cs - k)) → IllSized rs cs
+  broadcast-message : (k : ℕ) → k < madeOf cs → k < mostBehind → PastBlock cs cs (broadcastBlock (madeOf cs - k)) → IllSized rs cs
   -- g: the tag of a message held or in flight
   held-tag : (i k : ℕ) → i < cardsOf cs → k < heldCountOf cs i → 65535 < tagAt cs (heldBlock i k) → IllSized rs cs
   flight-tag : (t : ℕ) → t < tasksOf cs → noFlight cs t ≡ false → 65535 < tagAt cs (flightBlock t) → IllSized rs cs
   -- h: broadcasts taken
   above : (i : ℕ) → i < cardsOf cs → madeOf cs < takenOf cs i → IllSized rs cs
-  below : (i : ℕ) → i < cardsOf cs → takenOf cs i + 64 < madeOf cs → IllSized rs cs
+  below : (i : ℕ) → i < cardsOf cs → takenOf cs i + mostBehind < madeOf cs → IllSized rs cs
   -- j: a queue that starts past the end of its ring
   outbox-head : (i : ℕ) → i < cardsOf cs → 16 ≤ outHeadOf rs i → IllSized rs cs
   inbox-head : (i : ℕ) → i < cardsOf cs → 48 ≤ headOf cs i → IllSized rs cs
@@ -66,7 +67,7 @@ pub data IllSized (rs cs : List ℕ) : Type 0 where
   -- k: a message in flight without exactly one destination, so that there is no card that step 8 could take it to
   flight-destination : (t : ℕ) → t < tasksOf cs → noFlight cs t ≡ false → single (letterAt cs (flightBlock t) .to) ≡ false → IllSized rs cs
   -- k: a broadcast with at most one destination, which is none (RULES 6.1)
-  broadcast-destination : (k : ℕ) → k < madeOf cs → k < 64 → several (letterAt cs (broadcastBlock (madeOf cs - k)) .to) ≡ false → IllSized rs cs
+  broadcast-destination : (k : ℕ) → k < madeOf cs → k < mostBehind → several (letterAt cs (broadcastBlock (madeOf cs - k)) .to) ≡ false → IllSized rs cs
 
 pub record IllStates (rs cs : List ℕ) : Type 0 where
   pub exact : (storeSized rs cs ≡ false) ↔ IllSized rs cs

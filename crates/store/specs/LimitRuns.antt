@@ -46,9 +46,9 @@ settles t = step 7 (0 ∷ []) ∷ step 9 (0 ∷ []) ∷ step 10 (t % 16 ∷ []) 
 abbrev pub broadcasts : ℕ → List RawStep
 broadcasts n = each-of n (λ t. shares t ++ settles t)
 
--- card 1 takes n broadcasts
-abbrev pub takes : ℕ → List RawStep
-takes n = each-of n (λ k. step 7 (1 ∷ []) ∷ [])
+-- the same, and card 1 takes each as it comes
+abbrev pub taken-broadcasts : ℕ → List RawStep
+taken-broadcasts n = each-of n (λ t. shares t ++ settles t ++ (step 7 (1 ∷ []) ∷ []))
 
 abbrev pub outbox-run : List RawStep
 outbox-run = each-of 16 reads
@@ -59,15 +59,15 @@ held-run = broadcasts 1 ++ each-of 16 (λ t. reads t ++ arrives t)
 
 -- 32 broadcasts and 16 single messages
 abbrev pub inbox-run : List RawStep
-inbox-run = broadcasts 32 ++ takes 32 ++ each-of 16 (λ t. reads t ++ arrives t)
+inbox-run = taken-broadcasts 32 ++ each-of 16 (λ t. reads t ++ arrives t)
 
--- K11: card 1 takes nothing; broadcast 64 passes, 65 gives 34
+-- K11: card 1 takes nothing; broadcast 24 passes, 25 gives 34
 abbrev pub k11 : List RawStep
-k11 = broadcasts 64 ++ shares 64
+k11 = broadcasts 24 ++ shares 24
 
--- K12: card 1 takes and does not deliver; the 32nd take passes, the 33rd gives 35
+-- K12: every card takes broadcasts as they come, and card 1 does not deliver; its 32nd take passes, the 33rd gives 35
 abbrev pub k12 : List RawStep
-k12 = broadcasts 33 ++ takes 33
+k12 = taken-broadcasts 33
 
 -- the results of a run of the store, in memories of any content
 abbrev pub resultsOf : Store → List RawStep → List ℕ
@@ -84,5 +84,5 @@ pub record LimitsMet : Type 0 where
   pub outbox : length (finalFrom crowd begin outbox-run .out 0) ≡ 16
   pub held : length (finalFrom crowd begin held-run .channel .held 1) ≡ 16
   pub inbox : length (finalFrom crowd begin inbox-run .channel .inbox 1) ≡ 48
-  pub behind : (m : Store) → resultsOf m k11 ≡ thenRefused 386 34
+  pub behind : (m : Store) → resultsOf m k11 ≡ thenRefused 146 34
   pub crowded : (m : Store) → resultsOf m k12 ≡ thenRefused 230 35

@@ -12,6 +12,7 @@ use Rattle.lists.specs.Places.{nth}
 use Rattle.names.specs.CardSet.{memberOf, several, soleOf}
 use Rattle.names.specs.Placement.{Placement, home, copy}
 use Rattle.automaton.specs.State.{Tagged, released, ripe}
+use Rattle.automaton.specs.MostBehind.{mostBehind}
 use Rattle.claims.specs.Command.{request-read, send-read, dispatch, takeBroadcast, takeSingle}
 use Rattle.claims.specs.Published.{Published, Letter, quiet, askingRead, mail, commandRefusal}
 
@@ -20,9 +21,9 @@ module _ (P : Placement) (s : Published) where
   abbrev pub sent : List Letter
   sent = s .channel .sent
 
-  -- one broadcast more leaves no card more than 64 behind
+  -- one broadcast more leaves no card more than `mostBehind` behind
   abbrev pub Near : Type 0
-  Near = (j : ℕ) → j < P .cards → length sent < s .channel .taken j + 64
+  Near = (j : ℕ) → j < P .cards → length sent < s .channel .taken j + mostBehind
 
   pub record LimitSteps : Type 0 where
     -- requests (7.8): 23
@@ -37,7 +38,7 @@ module _ (P : Placement) (s : Published) where
         → (length sent ≡ 65534 → commandRefusal P s (dispatch i) ≡ 0) × (length sent ≡ 65535 → commandRefusal P s (dispatch i) ≡ 6)
     -- a card that is behind (7.5): 34
     pub behind : (i : ℕ) (m : Letter) (r : List Letter) → s .out i ≡ m ∷ r → several (m .to) ≡ true
-        → (j : ℕ) → j < P .cards → length sent ≡ s .channel .taken j + 64 → commandRefusal P s (dispatch i) ≡ 34
+        → (j : ℕ) → j < P .cards → length sent ≡ s .channel .taken j + mostBehind → commandRefusal P s (dispatch i) ≡ 34
     -- a message in flight (7.4)
     pub flight : (i : ℕ) (m : Letter) (r : List Letter) → s .out i ≡ m ∷ r → several (m .to) ≡ false
         → (s .channel .flight (m .task) ≡ none → commandRefusal P s (dispatch i) ≡ 0)

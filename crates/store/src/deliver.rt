@@ -138,7 +138,11 @@ fn deliver_found(registers: &mut [u32; 593], card: Card, found: Received) -> u8
 }
 
 // Step 9: the channel's inbox is looked at first, and the head leaves it where the step is taken.
-pub(crate) fn deliver(registers: &mut [u32; 593], channel: &mut [u32; 1364], card: Card) -> u8
+pub(crate) fn deliver(
+    registers: &mut [u32; 593],
+    channel: &mut [u32; channel::WORDS],
+    card: Card,
+) -> u8
     ensures registers { λ _. ⌜ now (registers .exit) ≡ deliverRegisters (now (registers .entry)) (now (channel .entry)) card ⌝ }
     ensures channel { λ _. ⌜ now (channel .exit) ≡ deliverChannel (now (registers .entry)) (now (channel .entry)) card ⌝ }
     ensures number { λ r. ⌜ r ≡ deliverNumber (now (registers .entry)) (now (channel .entry)) card ⌝ }

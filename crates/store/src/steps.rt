@@ -17,7 +17,7 @@ use tables::Doing;
 use tables::sized::well_sized;
 
 // A decoded step.
-fn take(registers: &mut [u32; 593], channel: &mut [u32; 1364], command: Command) -> Answer
+fn take(registers: &mut [u32; 593], channel: &mut [u32; channel::WORDS], command: Command) -> Answer
     ensures registers { λ _. ⌜ now (registers .exit) ≡ taken (now (registers .entry)) (now (channel .entry)) command .registers ⌝ }
     ensures channel { λ _. ⌜ now (channel .exit) ≡ taken (now (registers .entry)) (now (channel .entry)) command .channel ⌝ }
     ensures answer { λ r. ⌜ r ≡ taken (now (registers .entry)) (now (channel .entry)) command .answer ⌝ }
@@ -44,7 +44,7 @@ fn take(registers: &mut [u32; 593], channel: &mut [u32; 1364], command: Command)
 // A step on memories that need not be checked again: a run of many steps checks once, for each step keeps them well sized.
 pub fn advance(
     registers: &mut [u32; 593],
-    channel: &mut [u32; 1364],
+    channel: &mut [u32; channel::WORDS],
     code: u8,
     argument: [u8; 8],
 ) -> Answer
@@ -59,7 +59,7 @@ pub fn advance(
 // A step: 6 unless both memories are well sized.
 pub fn step(
     registers: &mut [u32; 593],
-    channel: &mut [u32; 1364],
+    channel: &mut [u32; channel::WORDS],
     code: u8,
     argument: [u8; 8],
 ) -> Answer

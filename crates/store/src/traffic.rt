@@ -27,7 +27,7 @@ pub(crate) fn number_of(answer: channel::Answer) -> u8
 }
 
 // A card's letter is handed to the channel, in its packet.
-fn hand_over(channel: &mut [u32; 1364], card: Card, packet: Packet) -> channel::Answer
+fn hand_over(channel: &mut [u32; channel::WORDS], card: Card, packet: Packet) -> channel::Answer
     ensures channel { λ _. ⌜ now (channel .exit) ≡ handedMemory (now (channel .entry)) card (letterOf packet) ⌝ }
     ensures answer { λ r. ⌜ r ≡ handedAnswer (now (channel .entry)) card (letterOf packet) ⌝ }
 {
@@ -35,7 +35,11 @@ fn hand_over(channel: &mut [u32; 1364], card: Card, packet: Packet) -> channel::
 }
 
 // Step 6: the head of a card's outbox goes to the channel.
-pub(crate) fn dispatch(registers: &mut [u32; 593], channel: &mut [u32; 1364], card: Card) -> u8
+pub(crate) fn dispatch(
+    registers: &mut [u32; 593],
+    channel: &mut [u32; channel::WORDS],
+    card: Card,
+) -> u8
     ensures registers { λ _. ⌜ now (registers .exit) ≡ dispatchRegisters (now (registers .entry)) (now (channel .entry)) card ⌝ }
     ensures channel { λ _. ⌜ now (channel .exit) ≡ dispatchChannel (now (registers .entry)) (now (channel .entry)) card ⌝ }
     ensures number { λ r. ⌜ r ≡ dispatchNumber (now (registers .entry)) (now (channel .entry)) card ⌝ }

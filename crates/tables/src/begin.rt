@@ -34,7 +34,7 @@ fn place_registers(registers: &mut [u32; 593], copies: &[u8], primaries: &[u8])
 // Both memories for this placement, with nothing asked or sent and every copy 0; or the refusal, 3 or 4, and both as they were.
 pub fn start(
     registers: &mut [u32; 593],
-    channel: &mut [u32; 1364],
+    channel: &mut [u32; channel::WORDS],
     cards: u32,
     homes: &[u8],
     copies: &[u8],

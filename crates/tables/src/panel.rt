@@ -18,7 +18,12 @@ pub fn requests(registers: &[u32; 593]) -> u32
 }
 
 // The value of a card's copy of a register; 0 for an absent card or register.
-pub fn value(registers: &[u32; 593], channel: &[u32; 1364], card: Card, register: Register) -> u32
+pub fn value(
+    registers: &[u32; 593],
+    channel: &[u32; channel::WORDS],
+    card: Card,
+    register: Register,
+) -> u32
     ensures { λ r. ⌜ r ≡ valueShown (now (registers .entry)) (now (channel .entry)) card register ⌝ }
 {
     if channel::cards(channel) <= card.0 {
@@ -31,7 +36,7 @@ pub fn value(registers: &[u32; 593], channel: &[u32; 1364], card: Card, register
 }
 
 // What a task is doing; quiet for an absent task.
-pub fn doing_of(registers: &[u32; 593], channel: &[u32; 1364], task: Task) -> Doing
+pub fn doing_of(registers: &[u32; 593], channel: &[u32; channel::WORDS], task: Task) -> Doing
     ensures { λ r. ⌜ r ≡ doingShown (now (registers .entry)) (now (channel .entry)) task ⌝ }
 {
     if channel::tasks(channel) <= task.0 {

@@ -31,7 +31,12 @@ fn asked_fits(limits: Limits, kind: u32, register: Register, function: u32) -> b
 }
 
 // Whether a task's words are in order. The limits are the channel's, read once.
-fn task_fits(registers: &[u32; 593], channel: &[u32; 1364], limits: Limits, task: Task) -> bool
+fn task_fits(
+    registers: &[u32; 593],
+    channel: &[u32; channel::WORDS],
+    limits: Limits,
+    task: Task,
+) -> bool
     requires { ⌜ limits ≡ limitsOf (now channel) ⌝ }
     ensures { λ r. ⌜ r ≡ taskFits (now (registers .entry)) (now (channel .entry)) (task .0) ⌝ }
 {
@@ -46,7 +51,7 @@ fn task_fits(registers: &[u32; 593], channel: &[u32; 1364], limits: Limits, task
 // Whether a register's holders and primary are present cards.
 fn register_fits(
     registers: &[u32; 593],
-    channel: &[u32; 1364],
+    channel: &[u32; channel::WORDS],
     limits: Limits,
     register: Register,
 ) -> bool
@@ -60,7 +65,7 @@ fn register_fits(
 // Whether place k of a card's outbox is in order.
 fn out_fits(
     registers: &[u32; 593],
-    channel: &[u32; 1364],
+    channel: &[u32; channel::WORDS],
     limits: Limits,
     card: Card,
     k: u32,
@@ -85,7 +90,12 @@ fn at_most_16(x: u32) -> u32
 }
 
 // Whether the messages of a card's outbox are in order.
-fn out_all(registers: &[u32; 593], channel: &[u32; 1364], limits: Limits, card: Card) -> bool
+fn out_all(
+    registers: &[u32; 593],
+    channel: &[u32; channel::WORDS],
+    limits: Limits,
+    card: Card,
+) -> bool
     requires { ⌜ limits ≡ limitsOf (now channel) ⌝ }
     ensures { λ r. ⌜ r ≡ each (min (outCountOf (now (registers .entry)) (card .0)) 16) (outFits (now (registers .entry)) (now (channel .entry)) (card .0)) ⌝ }
 {
@@ -100,7 +110,12 @@ fn out_all(registers: &[u32; 593], channel: &[u32; 1364], limits: Limits, card: 
 }
 
 // Whether a card's outbox is in order.
-fn outbox_fits(registers: &[u32; 593], channel: &[u32; 1364], limits: Limits, card: Card) -> bool
+fn outbox_fits(
+    registers: &[u32; 593],
+    channel: &[u32; channel::WORDS],
+    limits: Limits,
+    card: Card,
+) -> bool
     requires { ⌜ limits ≡ limitsOf (now channel) ⌝ }
     ensures { λ r. ⌜ r ≡ outboxFits (now (registers .entry)) (now (channel .entry)) (card .0) ⌝ }
 {
@@ -109,7 +124,7 @@ fn outbox_fits(registers: &[u32; 593], channel: &[u32; 1364], limits: Limits, ca
 }
 
 // Whether every task's words are in order.
-fn task_all(registers: &[u32; 593], channel: &[u32; 1364], limits: Limits) -> bool
+fn task_all(registers: &[u32; 593], channel: &[u32; channel::WORDS], limits: Limits) -> bool
     requires { ⌜ limits ≡ limitsOf (now channel) ⌝ }
     ensures { λ r. ⌜ r ≡ each (tasksOf (now (channel .entry))) (taskFits (now (registers .entry)) (now (channel .entry))) ⌝ }
 {
@@ -124,7 +139,7 @@ fn task_all(registers: &[u32; 593], channel: &[u32; 1364], limits: Limits) -> bo
 }
 
 // Whether every register's words are in order.
-fn register_all(registers: &[u32; 593], channel: &[u32; 1364], limits: Limits) -> bool
+fn register_all(registers: &[u32; 593], channel: &[u32; channel::WORDS], limits: Limits) -> bool
     requires { ⌜ limits ≡ limitsOf (now channel) ⌝ }
     ensures { λ r. ⌜ r ≡ each (registersOf (now (channel .entry))) (registerFits (now (registers .entry)) (now (channel .entry))) ⌝ }
 {
@@ -139,7 +154,7 @@ fn register_all(registers: &[u32; 593], channel: &[u32; 1364], limits: Limits) -
 }
 
 // Whether every card's outbox is in order.
-fn outbox_all(registers: &[u32; 593], channel: &[u32; 1364], limits: Limits) -> bool
+fn outbox_all(registers: &[u32; 593], channel: &[u32; channel::WORDS], limits: Limits) -> bool
     requires { ⌜ limits ≡ limitsOf (now channel) ⌝ }
     ensures { λ r. ⌜ r ≡ each (cardsOf (now (channel .entry))) (outboxFits (now (registers .entry)) (now (channel .entry))) ⌝ }
 {
@@ -154,7 +169,7 @@ fn outbox_all(registers: &[u32; 593], channel: &[u32; 1364], limits: Limits) -> 
 }
 
 // Whether the registers' memory is well sized over this channel.
-fn registers_sized(registers: &[u32; 593], channel: &[u32; 1364]) -> bool
+fn registers_sized(registers: &[u32; 593], channel: &[u32; channel::WORDS]) -> bool
     ensures { λ r. ⌜ r ≡ registersSized (now (registers .entry)) (now (channel .entry)) ⌝ }
 {
     let limits = channel::limits_of(channel);
@@ -165,7 +180,7 @@ fn registers_sized(registers: &[u32; 593], channel: &[u32; 1364]) -> bool
 }
 
 // Whether both memories are well sized; else a step is refused with 6.
-pub fn well_sized(registers: &[u32; 593], channel: &[u32; 1364]) -> bool
+pub fn well_sized(registers: &[u32; 593], channel: &[u32; channel::WORDS]) -> bool
     ensures { λ r. ⌜ r ≡ storeSized (now (registers .entry)) (now (channel .entry)) ⌝ }
 {
     channel::well_sized(channel) & registers_sized(registers, channel)

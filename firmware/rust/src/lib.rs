@@ -47,7 +47,7 @@
 //!
 //! # Memory
 //!
-//! A [`Store`] is 7,828 bytes. It holds no pointer and the library keeps nothing elsewhere, so
+//! A [`Store`] is 7,508 bytes. It holds no pointer and the library keeps nothing elsewhere, so
 //! a clone is a store of its own that goes on from the same state. [`Store::start`] gives one
 //! by value, which may pass over the stack; where the stack is small, put
 //! [`Store::unstarted`] in a `static` or on the heap and [`restart`](Store::restart) it there.

@@ -57,7 +57,7 @@ pub enum Refusal {
     NothingInFlight,
     /// 33: deliver, and the card's inbox is empty.
     InboxEmpty,
-    /// 34: dispatch of a broadcast, and some card is already 64 behind.
+    /// 34: dispatch of a broadcast, and some card is already [`MAX_BEHIND`](crate::MAX_BEHIND) behind.
     TooFarBehind,
     /// 35: take broadcast, and the card's inbox already has 32 undelivered broadcasts.
     TooManyUndelivered,

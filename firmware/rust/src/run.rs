@@ -21,7 +21,7 @@ pub struct Tally {
 /// Refusals: 1 to 4 of the file, 5 of the output. The whole output then stays as it was. A
 /// refused step is no refusal of the file: its number is in the answer.
 ///
-/// The run has a store of its own on the stack, 7,828 bytes and a little more.
+/// The run has a store of its own on the stack, 7,508 bytes and a little more.
 ///
 /// ```
 /// use gondzselu::{answer, Refusal, LONGEST_ANSWER};

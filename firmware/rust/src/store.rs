@@ -20,7 +20,7 @@ pub struct Placement<'a> {
     pub primaries: &'a [u8],
 }
 
-/// A store in its two memories, 7,828 bytes.
+/// A store in its two memories, 7,508 bytes.
 ///
 /// `step`, `step_counted` and `advance` take a [`Step`]; the forms in `_bytes` take a code and
 /// an argument as they lie in a run file, right or wrong. Each gives the value of the step,
@@ -246,7 +246,7 @@ impl Store {
     }
 
     /// The words of both memories, of the registers and of the channel, to keep or to send. What
-    /// lies where is said in RULES 11.12, and was otherwise before 0.4.0.
+    /// lies where is said in RULES 11.12, and was otherwise before 0.5.0.
     pub fn words(&self) -> (&[u32; REGISTERS_WORDS], &[u32; CHANNEL_WORDS]) {
         self.memories.words()
     }
@@ -273,7 +273,7 @@ impl fmt::Debug for Store {
     }
 }
 
-const _: () = assert!(core::mem::size_of::<Store>() == 7_828);
+const _: () = assert!(core::mem::size_of::<Store>() == 7_508);
 
 const _: () = {
     const fn may_cross_threads<T: Send + Sync>() {}

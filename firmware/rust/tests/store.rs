@@ -2,8 +2,8 @@
 
 use gondzselu::{
     answer, answer_counted, Condition, Function, Placement, Refusal, Step, Store, Tally,
-    CHANNEL_WORDS, LONGEST_ANSWER, LONGEST_FILE, MAX_CARDS, MAX_REGISTERS, MAX_REQUESTS, MAX_STEPS,
-    MAX_TASKS, REGISTERS_WORDS,
+    CHANNEL_WORDS, LONGEST_ANSWER, LONGEST_FILE, MAX_BEHIND, MAX_CARDS, MAX_REGISTERS,
+    MAX_REQUESTS, MAX_STEPS, MAX_TASKS, REGISTERS_WORDS,
 };
 
 /// One card, one task, one register.
@@ -160,6 +160,42 @@ fn requests_end_where_the_limit_says() {
     assert_eq!(store.step(request), Err(Refusal::NoRequestLeft));
     store.restart(SMALLEST).expect("a placement");
     assert_eq!((store.requests(), store.step(request)), (0, Ok(0)));
+}
+
+/// K11; then card 1 takes one broadcast, and the refused one passes.
+#[test]
+fn a_card_falls_behind_as_far_as_the_limit_says() {
+    let both = Placement {
+        cards: 2,
+        copies: &[0b11],
+        ..SMALLEST
+    };
+    let mut store = Store::start(both).expect("a placement");
+    let update = Step::RequestUpdate {
+        task: 0,
+        register: 0,
+        function: Function::Set,
+        operand: 1,
+    };
+    let send = Step::SendUpdate { task: 0 };
+    let dispatch = Step::Dispatch { card: 0 };
+    let rest = [
+        Step::TakeBroadcast { card: 0 },
+        Step::Deliver { card: 0 },
+        Step::Report { task: 0 },
+    ];
+    for _ in 0..MAX_BEHIND {
+        for step in [update, send, dispatch].into_iter().chain(rest) {
+            assert_eq!(store.step(step), Ok(0));
+        }
+    }
+    let behind = |store: &Store| store.broadcasts() - store.broadcasts_taken(1);
+    assert_eq!(behind(&store), MAX_BEHIND);
+    let last = [update, send, dispatch].map(|step| store.step(step));
+    assert_eq!(last, [Ok(0), Ok(0), Err(Refusal::TooFarBehind)]);
+    let take = Step::TakeBroadcast { card: 1 };
+    assert_eq!([take, dispatch].map(|step| store.step(step)), [Ok(0); 2]);
+    assert_eq!(behind(&store), MAX_BEHIND);
 }
 
 /// RULES 2.2 and 2.5: one below the top and 3 more, by either sum.

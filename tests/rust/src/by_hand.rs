@@ -6,7 +6,7 @@ pub mod wild;
 pub mod words;
 
 use crate::generate::{any_placement, known_function, operand};
-use crate::model::channel::{Body, Message, Tagged};
+use crate::model::channel::{Body, Message, Tagged, BEHIND};
 use crate::model::placement::Placement;
 use crate::model::{only, Cards, Request, State, Task};
 use crate::random::Random;
@@ -74,19 +74,19 @@ pub fn any(random: &mut Random) -> State {
         .for_each(|doing| *doing = task(random, &placement));
     let channel = &mut state.channel;
     if cards > 1 {
-        let small = random.between(1, 63) as u32;
-        channel.made = random.pick(&[0, small, 64, 65, 1_000 + small, 65_534, 65_535]);
+        let small = random.between(1, BEHIND as usize - 1) as u32;
+        let more = 1_000 + small;
+        channel.made = random.pick(&[0, small, BEHIND, BEHIND + 1, more, 65_534, 65_535]);
     }
     let made = channel.made;
-    for _ in 0..made.min(64) {
+    let kept = made.min(BEHIND);
+    for _ in 0..kept {
         let to = several(random, all);
         channel.recent.push_back(message(random, &placement, to));
     }
     for card in 0..cards {
-        let most = made.min(64) as usize;
-        let some = random.between(0, most);
-        let behind = random.pick(&[0, some, most]);
-        channel.taken[card] = made - behind as u32;
+        let some = random.between(0, kept as usize) as u32;
+        channel.taken[card] = made - random.pick(&[0, some, kept]);
         for _ in 0..queue(random, 16) {
             let to = random.byte(1, all);
             channel.outbox[card].push_back(message(random, &placement, to));
@@ -157,28 +157,32 @@ pub fn state(random: &mut Random) -> State {
 
 #[cfg(test)]
 mod tests {
-    use std::collections::BTreeMap;
+    use std::collections::{BTreeMap, BTreeSet};
 
     use super::*;
     use crate::memory::{shown, well_sized, written, Words};
     use crate::statistics::{self, STATES};
 
-    /// So many states have every fault that a state of the model can have, and their words have a
-    /// fault just where the states have one.
+    /// So many states have every fault that a state of the model can have, cards as far behind as
+    /// they can be and further, and their words have a fault just where the states have one.
     #[test]
     fn states_have_every_fault() {
         let mut faults = BTreeMap::new();
+        let mut behind = BTreeSet::new();
         for item in 0..STATES {
             let mut random = Random::new(3, item);
             let state = state(&mut random);
             for fault in state.faults() {
                 *faults.entry(fault).or_default() += 1;
             }
+            let taken = state.channel.taken.iter();
+            behind.extend(taken.map(|taken| state.channel.made.wrapping_sub(*taken)));
             let Words { registers, channel } = written(&state, &mut random);
             let fine = well_sized(&registers, &channel);
             assert_eq!(fine, state.well_sized(), "item {item}");
             assert!(!fine || shown(&registers, &channel) == state, "item {item}");
         }
         assert_eq!(statistics::faults(&faults), [""; 0]);
+        assert!((0..=26).all(|number| behind.contains(&number)));
     }
 }

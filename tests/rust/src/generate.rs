@@ -16,7 +16,7 @@ pub enum Kind {
     Guided,
     /// A few operations on few cards, for checks that try every order.
     Tiny,
-    /// A card takes nothing until it is 64 behind.
+    /// A card takes nothing until it is as far behind as it can be.
     Behind,
     /// An outbox gets 16 requests.
     Requests,

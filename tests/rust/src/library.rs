@@ -18,8 +18,8 @@ use crate::named;
 use crate::random::Random;
 use calls::Calls;
 
-/// Version 0.4.0.
-const VERSION: u32 = 4_000;
+/// Version 0.5.0.
+const VERSION: u32 = 5_000;
 
 /// What lies in a lent output before.
 const FILL: u8 = 0xA5;

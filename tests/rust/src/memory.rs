@@ -12,10 +12,10 @@ pub use shown::shown;
 pub use sized::well_sized;
 pub use written::written;
 
-use crate::model::channel::{INBOX, OUTBOX};
+use crate::model::channel::{BEHIND, INBOX, OUTBOX};
 
 pub const REGISTERS_WORDS: usize = 593;
-pub const CHANNEL_WORDS: usize = 1_364;
+pub const CHANNEL_WORDS: usize = RECENT + 2 * BEHIND as usize;
 
 /// A store: the registers' memory and the channel's.
 #[derive(Clone, PartialEq, Eq)]
@@ -127,8 +127,12 @@ pub fn flight_message(task: usize) -> usize {
     1_188 + 3 * task
 }
 
+/// Where the last broadcasts lie.
+const RECENT: usize = 1_236;
+
+/// A message of their ring.
 pub fn broadcast_message(number: u32) -> usize {
-    1_236 + 2 * (number as usize % 64)
+    RECENT + 2 * (number % BEHIND) as usize
 }
 
 /// Where the messages of a card's outbox and inbox lie, oldest first, and those held there.
@@ -155,8 +159,8 @@ fn flight_places(words: &[u32], tasks: usize) -> Vec<Option<usize>> {
         .collect()
 }
 
-/// Where the last broadcasts lie, at most 64.
+/// Where the last broadcasts lie, as many as are kept.
 fn broadcast_places(words: &[u32]) -> impl Iterator<Item = usize> {
     let made = words[MADE];
-    (made - made.min(64)..made).map(|before| broadcast_message(before + 1))
+    (made - made.min(BEHIND)..made).map(|before| broadcast_message(before + 1))
 }

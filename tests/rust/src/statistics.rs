@@ -9,7 +9,7 @@ use std::collections::BTreeMap;
 
 use crate::generate::Kind;
 use crate::model::channel::Body;
-use crate::model::files::Run;
+use crate::model::files::{RawStep, Run};
 use crate::model::step::Step;
 use crate::model::{Card, Request, State, Task};
 pub use largest::{Largest, LIMITS};
@@ -105,15 +105,19 @@ impl Statistics {
     }
 
     fn add_run(&mut self, run: Run) {
-        let tasks = run.placement.home.len();
         count(&mut self.cards, run.placement.cards as usize);
         count(&mut self.registers, run.placement.registers.len());
-        count(&mut self.tasks, tasks);
+        count(&mut self.tasks, run.placement.home.len());
         count(&mut self.lengths, run.steps.len());
-        let mut state = State::start(run.placement).expect("an accepted placement");
-        let mut asked = vec![Asked::default(); tasks];
+        let state = State::start(run.placement).expect("an accepted placement");
+        self.add_steps(state, &run.steps);
+    }
+
+    /// Adds the steps of one run, from its start.
+    pub fn add_steps(&mut self, mut state: State, steps: &[RawStep]) {
+        let mut asked = vec![Asked::default(); state.tasks.len()];
         let mut largest = Largest::default();
-        for (code, argument) in run.steps {
+        for &(code, argument) in steps {
             if let Ok(step) = state.allowed(code, argument) {
                 count(&mut self.codes, code);
                 self.see(&state, step, &mut asked);
@@ -205,7 +209,7 @@ mod tests {
     fn each_kind_reaches_its_limit() {
         let largest = |kind: Kind, item: u64| of_one(kind, item).largest;
         for item in 0..20 {
-            assert_eq!(largest(Kind::Behind, item).behind, 64);
+            assert_eq!(largest(Kind::Behind, item).behind, 24);
             assert_eq!(largest(Kind::Requests, item).outbox, 16);
             assert_eq!(largest(Kind::Replies, item).outbox, 16);
             assert_eq!(largest(Kind::Inbox, item).undelivered, 32);

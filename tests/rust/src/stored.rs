@@ -1,19 +1,22 @@
 //! The runs stored in `crates/runs/data`: K11 and K12, a run for each queue at its limit, counters at
-//! the top, and files of 4,096 steps. The answers stored with them are this model's. `earlier` holds
-//! them to the answers of the version before.
+//! the top, runs made when a card could be further behind, and files of 4,096 steps. The answers stored
+//! with them are this model's. `earlier` holds them to the answers of earlier versions.
 
 #[cfg(test)]
 mod earlier;
+#[cfg(test)]
+mod tests;
 
 use crate::folder::File;
 use crate::generate::{self, Kind};
+use crate::model::channel::{BEHIND, UNDELIVERED};
 use crate::model::files::{program_output, RawStep, Run};
 use crate::model::placement::Placement;
 use crate::named;
 use crate::random::Random;
 use crate::steps::*;
 
-/// A file that was generated when functions 1 to 4 were drawn, as it was.
+/// A file that an earlier version made, as it was.
 macro_rules! kept {
     ($name:literal) => {
         include_bytes!(concat!("../../../crates/runs/data/", $name, ".run")).to_vec()
@@ -37,12 +40,24 @@ pub fn runs() -> Vec<Stored> {
         of("inbox", inbox()),
         of("held", held()),
         of("counts", counts()),
+        of("past1", kept!("past1")),
+        of("past2", kept!("past2")),
+        of("past3", kept!("past3")),
+        of("past4", kept!("past4")),
         of("full1", kept!("full1")),
         of("full2", kept!("full2")),
         of("guided", kept!("guided")),
-        of("full3", generated(Kind::Full, 2)),
-        of("mixed", longest_guided()),
+        of("full3", kept!("full3")),
+        of("mixed", kept!("mixed")),
+        of("full4", full()),
     ]
+}
+
+/// The run file of this name.
+pub fn file(name: &str) -> Vec<u8> {
+    let mut runs = runs().into_iter();
+    let run = runs.find(|run| run.name == name);
+    run.expect("a stored run").file
 }
 
 /// The files of the folder: each run file and what the program writes for it.
@@ -62,15 +77,9 @@ fn named_file(name: &str) -> Vec<u8> {
     found.next().expect("a named run").file
 }
 
-fn generated(kind: Kind, item: u64) -> Vec<u8> {
-    generate::file_of(kind, &mut Random::new(SEED, item))
-}
-
-/// The first guided file of eight cards and 4,096 steps.
-fn longest_guided() -> Vec<u8> {
-    let mut files = (0..).map(|item| generated(Kind::Guided, item));
-    let longest = |file: &Vec<u8>| file[0] == 8 && file[3..5] == [0, 16];
-    files.find(longest).expect("there is one")
+/// A generated file with every limit.
+fn full() -> Vec<u8> {
+    generate::file_of(Kind::Full, &mut Random::new(SEED, 3))
 }
 
 /// A card's step so many times, and once more, when there is nothing left for it.
@@ -147,8 +156,8 @@ fn behind() -> Vec<u8> {
     let mut run = Run::read(&named_file("K11")).expect("an accepted file");
     run.steps.extend([take_broadcast(1), dispatch(0)]);
     run.steps.extend([take_broadcast(0), deliver(0), report(0)]);
-    run.steps
-        .extend([set(0, 0, 66), send_update(0), dispatch(0)]);
+    let more = [set(0, 0, BEHIND + 2), send_update(0), dispatch(0)];
+    run.steps.extend(more);
     run.write()
 }
 
@@ -166,12 +175,15 @@ fn outbox() -> Vec<u8> {
     sixteen_tasks(steps)
 }
 
-/// An inbox of 48: card 1 takes 32 broadcasts and 16 reads before it delivers; then an outbox of
-/// 16 replies.
+/// An inbox of 48: card 1 takes 32 broadcasts as they come, and 16 reads, before it delivers; then
+/// an outbox of 16 replies.
 fn inbox() -> Vec<u8> {
     let mut steps = single(9).to_vec();
-    steps.extend((1..=32).flat_map(broadcast));
-    steps.extend(all_and_one(7, 1, 32));
+    for value in 1..=UNDELIVERED as u32 {
+        steps.extend(broadcast(value));
+        steps.push(take_broadcast(1));
+    }
+    steps.push(take_broadcast(1));
     steps.extend(reads());
     steps.extend(all_and_one(9, 1, 48));
     steps.extend(replies());
@@ -217,79 +229,4 @@ fn counts() -> Vec<u8> {
     }
     steps.extend([0, 6].map(|function| request_update(0, 0, function, 1)));
     Run { placement, steps }.write()
-}
-
-#[cfg(test)]
-mod tests {
-    use super::*;
-    use crate::folder;
-    use crate::model::State;
-    use crate::statistics::{Largest, Statistics, LIMITS};
-
-    fn statistics(file: &[u8]) -> Statistics {
-        let mut statistics = Statistics::default();
-        statistics.add(Kind::Full, file);
-        statistics
-    }
-
-    fn named(name: &str) -> Vec<u8> {
-        let mut runs = runs().into_iter();
-        let run = runs.find(|run| run.name == name);
-        run.expect("a stored run").file
-    }
-
-    fn largest(name: &str) -> Largest {
-        statistics(&named(name)).largest
-    }
-
-    /// Worked out by hand from `ADDED`.
-    #[test]
-    fn counts_at_the_top() {
-        const TOP: u32 = u32::MAX;
-        let run = Run::read(&named("counts")).expect("an accepted file");
-        let mut state = State::start(run.placement).expect("an accepted placement");
-        let mut asked = [0; 2];
-        let mut given = Vec::new();
-        for (code, argument) in run.steps {
-            let (result, value) = state.step_reached(code, argument);
-            let known = code != 2 || !matches!(argument[2], 0 | 6);
-            assert_eq!(result, if known { 0 } else { 15 });
-            let task = argument[0] as usize;
-            match code {
-                1 | 2 => asked[task] = code,
-                10 if asked[task] == 1 => given.push(value),
-                _ => {}
-            }
-        }
-        let stays = [TOP; 4];
-        let comes_round = [TOP, 0, TOP, 1];
-        let once = [stays, comes_round].concat();
-        let twice: Vec<u32> = once.iter().flat_map(|&value| [value; 2]).collect();
-        assert_eq!(given, [twice, once.clone(), once].concat());
-    }
-
-    #[test]
-    fn limits_are_reached() {
-        assert_eq!(largest("behind").behind, LIMITS.behind);
-        assert_eq!(largest("k12").undelivered, LIMITS.undelivered);
-        assert_eq!(largest("outbox").outbox, LIMITS.outbox);
-        assert_eq!(largest("inbox").inbox, LIMITS.inbox);
-        assert_eq!(largest("held").held, LIMITS.held);
-    }
-
-    #[test]
-    fn full_files_have_every_limit_and_refusal() {
-        for name in ["full1", "full2", "full3"] {
-            let statistics = statistics(&named(name));
-            assert!(statistics.lengths.contains_key(&4_096));
-            assert_eq!(statistics.refusals_missing(), []);
-            assert_eq!(statistics.largest, LIMITS);
-        }
-    }
-
-    #[test]
-    fn the_stored_files_are_these() {
-        let data = folder::of_tree("crates/runs/data");
-        assert_eq!(folder::compare(&data, &files()), Ok(()));
-    }
 }

@@ -40,6 +40,7 @@ use denote.Exit.{yes}
 use denote.Signature.{Slot, plain}
 use Rattle.tally.specs.declared.Tally.{Tally}
 use Rattle.tally.specs.Tally.{counted}
+use Rattle.channel.specs.Layout.{channelWords}
 use Rattle.store.specs.Step.{stepped, Outcome}
 use Rattle.firmware.specs.declared.Counts.{Counts}
 use Rattle.firmware.specs.StepTally.{countsOf}
@@ -75,7 +76,7 @@ bytes = ArrayOf (plain (λ _. u8)) (λ _. tt) 8
 
 abbrev stayed : Stays (f.ended .signature .params) (f.ended .kept)
 stayed =
-    (gave-ref (0 ∷ []) tt (words 593), (gave-ref (1 ∷ []) tt (words 1364), (stay-none (λ _. u8) yes, (stay-none-ref (2 ∷ []) tt bytes yes, (gave-ref (3 ∷ []) tt (plain (λ _. u32)), (gave-ref (4 ∷ []) tt (plain (λ _. T.the-row)), tt))))))
+    (gave-ref (0 ∷ []) tt (words 593), (gave-ref (1 ∷ []) tt (words channelWords), (stay-none (λ _. u8) yes, (stay-none-ref (2 ∷ []) tt bytes yes, (gave-ref (3 ∷ []) tt (plain (λ _. u32)), (gave-ref (4 ∷ []) tt (plain (λ _. T.the-row)), tt))))))
 
 module _ {M : Type 1} (𝓤 : URA M) where
   -- one clause and then others, each a fact
@@ -165,7 +166,7 @@ module _ {M : Type 1} (𝓤 : URA M) (H : Heap 𝓤) (A : Atoms 𝓤) (W : Given
       (sep 𝓤 (Step 𝓤 H A mem run .pre to-step) (sep 𝓤 (sem 𝓤 H A Own₂) (sep 𝓤 (sem 𝓤 H A Own₄) (A .lft κ₄ q₄))))
   goes-step =
       qed W ((‵ (flft κ₀ q₀) ⊛ (‵ (flft κ₁ q₁) ⊛ (‵ (flft κ₂ q₂) ⊛ (‵ (flft κ₃ q₃) ⊛ (‵ (flft κ₄ q₄) ⊛ ‵ ftrue))))) ∷
-      ‵ (owns (MutRef (named 0) κ₀ (Words 593) ∷ MutRef (named 1) κ₁ (Words 1364) ∷ u8 ∷ ShrRef (named 2) κ₂ Bytes ∷ MutRef (named 3) κ₃ u32 ∷ MutRef (named 4) κ₄ T.the-row ∷ []) a vals) ∷ []) ∵
+      ‵ (owns (MutRef (named 0) κ₀ (Words 593) ∷ MutRef (named 1) κ₁ (Words channelWords) ∷ u8 ∷ ShrRef (named 2) κ₂ Bytes ∷ MutRef (named 3) κ₃ u32 ∷ MutRef (named 4) κ₄ T.the-row ∷ []) a vals) ∷ []) ∵
       split ! $ move ! (1 ∷ []) $ split ! $ move ! (1 ∷ []) $ split ! $ move ! (1 ∷ []) $ split ! $ move ! (1 ∷ []) $ split ! $
       -- [token 4; true; token 3; token 2; token 1; token 0; what is owned]
       move ! (6 ∷ []) $ fsplit ! $ move ! (1 ∷ []) $ fsplit ! $ move ! (1 ∷ []) $ fsplit ! $ move ! (1 ∷ []) $ fsplit ! $
@@ -176,7 +177,7 @@ module _ {M : Type 1} (𝓤 : URA M) (H : Heap 𝓤) (A : Atoms 𝓤) (W : Given
       move ! (5 ∷ 4 ∷ []) $ join ! $ move ! (5 ∷ 0 ∷ []) $ join ! $ move ! (5 ∷ 0 ∷ []) $ join ! $ move ! (5 ∷ 0 ∷ []) $ join ! $
       use2 W (raw (Step 𝓤 H A mem run .pre to-step))
       (qed W ((‵ (flft κ₀ q₀) ⊛ (‵ (flft κ₁ q₁) ⊛ (‵ (flft κ₂ q₂) ⊛ (‵ (flft κ₃ q₃) ⊛ ‵ ftrue)))) ∷
-      ‵ (owns (MutRef (named 0) κ₀ (Words 593) ∷ MutRef (named 1) κ₁ (Words 1364) ∷ u8 ∷ ShrRef (named 2) κ₂ Bytes ∷ MutRef (named 3) κ₃ u32 ∷ []) a′ vals′) ∷ []) ∵ join ! $ frame ! $ done !) $
+      ‵ (owns (MutRef (named 0) κ₀ (Words 593) ∷ MutRef (named 1) κ₁ (Words channelWords) ∷ u8 ∷ ShrRef (named 2) κ₂ Bytes ∷ MutRef (named 3) κ₃ u32 ∷ []) a′ vals′) ∷ []) ∵ join ! $ frame ! $ done !) $
       frame ! $ move ! (1 ∷ 0 ∷ []) $ frame ! $ done !
 
   abbrev to-count : ℕ → ℕ → Count 𝓤 H A mem run .Ghost
@@ -251,7 +252,7 @@ module _ {M : Type 1} (𝓤 : URA M) (H : Heap 𝓤) (A : Atoms 𝓤) (W : Given
   counted-walks : (C : Calls 𝓤 H) (Λ : Loops 𝓤 H) → FmC 𝓤 H (W .laws) C → Triple 𝓤 (C #firmware·step-counts) (Step 𝓤 H A mem run) → Triple 𝓤 (C #tally·count) (Count 𝓤 H A mem run) → Walks 𝓤 H A f.ended stayed (WpFn 𝓤 H C Λ code.function) (f.clauses 𝓤 H A mem run)
   counted-walks C Λ fm known-step known-count = walked 𝓤 H A f.ended stayed (f.clauses 𝓤 H A mem run) (WpFn 𝓤 H C Λ code.function)
       (λ κs. (ptr-vals, (ptr-vals, (uint-vals w8, (ptr-vals, (ptr-vals, (ptr-vals, tt)))))))
-      (λ κs. (mut-tells (named 0) (κs .0) (Words 593), (mut-tells (named 1) (κs .1 .0) (Words 1364), (uint-tells w8, (shr-tells (named 2) (κs .1 .1 .0) Bytes, (mut-tells (named 3) (κs .1 .1 .1 .0) u32, (mut-tells (named 4) (κs .1 .1 .1 .1 .0) T.the-row, tt)))))))
+      (λ κs. (mut-tells (named 0) (κs .0) (Words 593), (mut-tells (named 1) (κs .1 .0) (Words channelWords), (uint-tells w8, (shr-tells (named 2) (κs .1 .1 .0) Bytes, (mut-tells (named 3) (κs .1 .1 .1 .0) u32, (mut-tells (named 4) (κs .1 .1 .1 .1 .0) T.the-row, tt)))))))
       (λ κs qs bounds a _ are. via 𝓤 _ (fst∗ 𝓤 _ (emp 𝓤)) (walk 𝓤 H A W mem run (κs .0) (κs .1 .0) (κs .1 .1 .0) (κs .1 .1 .1 .0) (κs .1 .1 .1 .1 .0) (qs .0) (qs .1 .0) (qs .1 .1 .0) (qs .1 .1 .1 .0) (qs .1 .1 .1 .1 .0)
       (a .0) (a .1 .0) (a .1 .1 .0) (a .1 .1 .1 .0) (a .1 .1 .1 .1 .0) (a .1 .1 .1 .1 .1 .0) C Λ fm known-step known-count (are .1 .1 .0 .1)))
 
@@ -259,7 +260,7 @@ module _ {M : Type 1} (𝓤 : URA M) (H : Heap 𝓤) (A : Atoms 𝓤) (W : Given
   goes = (
     goes-gave-ref 𝓤 H A W 5 0 tt (words 593),
     (
-      goes-gave-ref 𝓤 H A W 5 1 tt (words 1364),
+      goes-gave-ref 𝓤 H A W 5 1 tt (words channelWords),
       (
         goes-none 𝓤 H A W 5 (λ _. u8) yes (λ κs x f. refl),
         (goes-none-ref 𝓤 H A W 5 (2 ∷ []) tt bytes yes, (goes-gave-ref 𝓤 H A W 5 3 tt (plain (λ _. u32)), (goes-gave-ref 𝓤 H A W 5 4 tt (plain (λ _. T.the-row)), tt))),

@@ -4,7 +4,7 @@
 use super::{message, tagged};
 use crate::generate::operand;
 use crate::memory::{Field, ASKED, PRIMARY, REGISTER, TASK};
-use crate::model::channel::{Body, Message};
+use crate::model::channel::{Body, Message, BEHIND};
 use crate::model::placement::Placement;
 use crate::model::{only, Request, State, Task};
 use crate::random::Random;
@@ -55,12 +55,15 @@ pub fn stretch(random: &mut Random, state: &mut State) {
     let made = state.channel.made;
     match random.between(0, 16) {
         0 => state.requests = random.pick(&[65_535, 65_536, u32::MAX]),
-        1 if made > 64 => {
+        1 if made > BEHIND => {
             state.channel.made = random.pick(&[65_535, 65_536, 65_600]);
             state.channel.taken.fill(state.channel.made);
         }
         1 | 2 => state.channel.taken[card] = random.pick(&[made, made + 1, u32::MAX]),
-        3 => state.channel.taken[card] = made.saturating_sub(random.pick(&[63, 64, 65, 66])),
+        3 => {
+            let behind = random.between(BEHIND as usize - 1, BEHIND as usize + 2) as u32;
+            state.channel.taken[card] = made.saturating_sub(behind);
+        }
         4 => state.placement.home[number] = random.pick(&[cards as u8 - 1, cards as u8, 255]),
         5 => state.placement.registers[register].holders = random.byte(0, 255),
         6 => state.placement.registers[register].primary = past(random, cards, PRIMARY) as u8,

@@ -4,7 +4,7 @@ use crate::memory::{self, Field, Words};
 use crate::random::Random;
 
 /// Sizes, limits and numbers past them.
-const WILD: [u32; 18] = [
+const WILD: [u32; 21] = [
     0,
     1,
     2,
@@ -14,6 +14,9 @@ const WILD: [u32; 18] = [
     8,
     15,
     16,
+    23,
+    24,
+    25,
     31,
     32,
     47,

@@ -9,11 +9,11 @@ mod unused;
 pub use row::Row;
 
 use crate::memory::Words;
-use crate::model::channel::{Body, Message, Tagged};
+use crate::model::channel::{Body, Message, Tagged, BEHIND};
 use crate::model::placement::Placement;
 use crate::model::{only, Cards, Request, State};
 
-/// Cards, registers and tasks, and broadcasts made, 64 or more.
+/// Cards, registers and tasks, and broadcasts made, at least as many as are kept.
 pub type Sizes = (u8, usize, usize, u32);
 
 /// A task, a register or a primary past the last one fits in its field only where fewer are present
@@ -21,8 +21,8 @@ pub type Sizes = (u8, usize, usize, u32);
 pub const SIZES: [Sizes; 4] = [
     (8, 32, 16, 70),
     (7, 31, 15, 65_535),
-    (5, 20, 10, 65),
-    (2, 1, 1, 64),
+    (5, 20, 10, BEHIND + 1),
+    (2, 1, 1, BEHIND),
 ];
 
 /// Which card or task has something; the last one where there are not so many.
@@ -58,7 +58,7 @@ pub fn filled((cards, registers, tasks, made): Sizes) -> State {
     let channel = &mut state.channel;
     channel.made = made;
     channel.taken.fill(made);
-    channel.recent = vec![message(0, 3); 64].into();
+    channel.recent = vec![message(0, 3); BEHIND as usize].into();
     channel.outbox[card(OUTBOX)].push_back(message(3, all));
     channel.inbox[card(INBOX)].push_back(message(4, only(card(INBOX))));
     channel.held[card(HELD)].push(tagged(5, only(card(HELD))));

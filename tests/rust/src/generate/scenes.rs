@@ -3,8 +3,10 @@
 
 use super::guide::{Mood, Script};
 use super::{any_placement, length, placement};
+use crate::model::channel::BEHIND;
 use crate::model::files::Run;
 use crate::model::placement::{Place, Placement};
+use crate::model::State;
 use crate::random::Random;
 
 pub fn guided(random: &mut Random) -> Run {
@@ -229,22 +231,31 @@ impl Scene {
     }
 
     /// The card delivers nothing: broadcasts reach it, then a single message of every task.
-    /// With `hold` it takes no broadcast before, so that the single messages are held. Past 32
-    /// broadcasts they are held too, for those that the inbox has no room for.
+    /// With `hold` it does not take the last broadcasts before, as many as it can be behind, so that
+    /// the single messages are held. Past 32 broadcasts they are held too, for those that the inbox
+    /// has no room for.
     fn fill_inbox(&mut self, random: &mut Random, broadcasts: u32, hold: bool) {
         let mut mood = broadcasts_only();
         mood.no_deliver = 1 << self.focus;
+        let waiting = if hold { BEHIND } else { 0 };
+        self.broadcast(random, &mood, broadcasts - waiting);
         mood.no_take = (hold as u8) << self.focus;
-        let requests = self.script.state.requests + broadcasts;
-        self.script
-            .go(random, &mood, |state| state.requests == requests);
-        set_requests(&mut mood, 0);
-        self.script.go_on(random, &mood);
+        self.broadcast(random, &mood, waiting);
         set_requests(&mut mood, 4);
         mood.registers = ALONE;
         self.script.go_on(random, &mood);
         set_requests(&mut mood, 0);
         self.take_without_delivery(random, mood);
+    }
+
+    /// So many requests in this mood, and all that the mood lets come of them.
+    fn broadcast(&mut self, random: &mut Random, mood: &Mood, count: u32) {
+        let requests = self.script.state.requests + count;
+        let asked = |state: &State| state.requests == requests;
+        self.script.go(random, mood, asked);
+        let mut rest = mood.clone();
+        set_requests(&mut rest, 0);
+        self.script.go_on(random, &rest);
     }
 
     /// The card takes nothing, and single messages with many tags come between broadcasts.

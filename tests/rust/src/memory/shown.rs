@@ -5,7 +5,7 @@ use super::{card, copy, register, task};
 use super::{ASKED, ASKED_FUNCTION, DESTINATIONS, DOING, FUNCTION, HOLDERS, HOME, KIND, PRIMARY};
 use super::{CARDS, CHANNEL_WORDS, MADE, REGISTER, REGISTERS, REGISTERS_WORDS, REQUESTS};
 use super::{TAG, TASK, TASKS, VALUE};
-use crate::model::channel::{Body, Channel, Message, Tagged};
+use crate::model::channel::{Body, Channel, Message, Tagged, BEHIND};
 use crate::model::placement::{Place, Placement};
 use crate::model::{Request, State, Task};
 
@@ -82,6 +82,7 @@ pub fn shown(words: &[u32; REGISTERS_WORDS], c: &[u32; CHANNEL_WORDS]) -> State 
             .collect(),
         requests: words[REQUESTS],
         channel: Channel {
+            most_behind: BEHIND,
             made: c[MADE],
             recent: broadcast_places(c).map(in_channel).collect(),
             taken: (0..cards).map(|number| c[card(number)]).collect(),

@@ -31,9 +31,16 @@ fn every_word_has_one_use() {
         channel.extend((0..16).flat_map(|place| words(held_message(card, place), 3)));
     }
     channel.extend((0..16).flat_map(|number| words(flight_message(number), 3)));
-    channel.extend((0..64).flat_map(|number| words(broadcast_message(number), 2)));
+    channel.extend((0..24).flat_map(|number| words(broadcast_message(number), 2)));
     channel.sort();
     assert!(channel.into_iter().eq(0..CHANNEL_WORDS));
+}
+
+/// RULES 11.1.
+#[test]
+fn sizes() {
+    assert_eq!([REGISTERS_WORDS, CHANNEL_WORDS], [593, 1_284]);
+    assert_eq!(size_of::<Words>(), 7_508);
 }
 
 /// The places and fields of RULES 11.12, in numbers of their own.
@@ -56,8 +63,8 @@ fn places_and_fields() {
     assert_eq!([held_message(0, 0), held_message(7, 15)], [104, 1_185]);
     assert_eq!([flight_message(0), flight_message(15)], [1_188, 1_233]);
     assert_eq!(
-        [64, 1, 63, 65_535].map(broadcast_message),
-        [1_236, 1_238, 1_362, 1_362]
+        [24, 1, 23, 25, 65_535].map(broadcast_message),
+        [1_236, 1_238, 1_282, 1_238, 1_266]
     );
     let word = 2 + 8 * 13 + 128 * 30 + 4_096 * 5 + 32_768 * 131_070;
     let fields = [KIND, TASK, REGISTER, FUNCTION, DESTINATIONS];

@@ -9,7 +9,7 @@ pub const OUTBOX: usize = 16;
 pub const INBOX: usize = 48;
 pub const HELD: usize = 16;
 pub const BROADCASTS: u32 = 65_535;
-pub const BEHIND: u32 = 64;
+pub const BEHIND: u32 = 24;
 pub const UNDELIVERED: usize = 32;
 
 #[derive(Clone, Copy, Debug, PartialEq, Eq)]
@@ -48,9 +48,11 @@ impl Tagged {
 
 #[derive(Clone, Debug, PartialEq, Eq)]
 pub struct Channel {
+    /// How far behind a card can be: `BEHIND`, or what it was for runs of earlier versions.
+    pub most_behind: u32,
     /// The number of broadcasts made; the next one gets this plus 1.
     pub made: u32,
-    /// The last 64 broadcasts; no card is further behind.
+    /// The last broadcasts, as many as a card can be behind.
     pub recent: VecDeque<Message>,
     /// By card: the number of broadcasts taken.
     pub taken: Vec<u32>,
@@ -66,6 +68,7 @@ pub struct Channel {
 impl Channel {
     pub fn new(cards: usize, tasks: usize) -> Channel {
         Channel {
+            most_behind: BEHIND,
             made: 0,
             recent: VecDeque::new(),
             taken: vec![0; cards],
@@ -106,7 +109,8 @@ impl Channel {
         let head = self.outbox[card].front().ok_or(30)?;
         if head.is_broadcast() {
             let number = self.made + 1;
-            if self.taken.iter().any(|taken| number - taken > BEHIND) {
+            let mut taken = self.taken.iter();
+            if taken.any(|taken| number - taken > self.most_behind) {
                 return Err(34);
             }
             if number > BROADCASTS {
@@ -125,7 +129,7 @@ impl Channel {
         };
         if message.is_broadcast() {
             self.made += 1;
-            if self.recent.len() == BEHIND as usize {
+            if self.recent.len() == self.most_behind as usize {
                 self.recent.pop_front();
             }
             self.recent.push_back(message);

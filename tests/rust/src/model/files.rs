@@ -79,12 +79,16 @@ pub fn write_answer(answers: &[(u8, u32)]) -> Vec<u8> {
 /// The answer file of a run file, or the refusal of the file.
 pub fn answer_file(file: &[u8]) -> Result<Vec<u8>, Refusal> {
     let run = Run::read(file)?;
-    let mut state = State::start(run.placement)?;
-    let steps = run.steps.iter();
+    Ok(answer_from(State::start(run.placement)?, &run.steps))
+}
+
+/// The answer file of steps from a start.
+pub fn answer_from(mut state: State, steps: &[RawStep]) -> Vec<u8> {
+    let steps = steps.iter();
     let answers: Vec<_> = steps
         .map(|&(code, argument)| state.step_reached(code, argument))
         .collect();
-    Ok(write_answer(&answers))
+    write_answer(&answers)
 }
 
 /// What the program writes (RULES 4.6).

@@ -4,7 +4,7 @@
 //! rings, no card past number 7 in a set, and no register of a reply. So the rest of 8.6 d, f, i
 //! and j is tried on words alone (`by_hand::words`), and judged there by `memory::well_sized`.
 
-use super::channel::{Body, Message, Tagged, BEHIND, BROADCASTS, HELD, INBOX, OUTBOX};
+use super::channel::{Body, Message, Tagged, BROADCASTS, HELD, INBOX, OUTBOX};
 use super::placement::sizes_in_range;
 use super::{Cards, Request, State, Task, FUNCTIONS, REQUESTS};
 
@@ -61,9 +61,10 @@ pub const FAULTS: [Fault; 20] = [
         let mut taken = s.channel.taken.iter();
         taken.any(|&taken| taken > s.channel.made)
     }),
-    ("h: more than 64 behind", |s| {
-        let mut taken = s.channel.taken.iter();
-        taken.any(|&taken| s.channel.made.saturating_sub(taken) > BEHIND)
+    ("h: too far behind", |s| {
+        let channel = &s.channel;
+        let mut taken = channel.taken.iter();
+        taken.any(|&taken| channel.made.saturating_sub(taken) > channel.most_behind)
     }),
     ("i: a message to nobody", |s| {
         s.messages().any(|message| message.to == 0)
@@ -116,7 +117,7 @@ impl State {
             && self.tasks.len() == tasks
             && channel.flight.len() == tasks
             && by_card == [cards; 4]
-            && channel.recent.len() == channel.made.min(BEHIND) as usize
+            && channel.recent.len() == channel.made.min(channel.most_behind) as usize
     }
 
     fn absent_cards(&self, cards: Cards) -> bool {
@@ -210,12 +211,14 @@ mod tests {
         let of = |made: u32, taken: u32, to: u8| {
             after(|state| {
                 state.channel.made = made;
-                state.channel.recent = vec![message(0, to, 0); 64].into();
+                state.channel.recent = vec![message(0, to, 0); 24].into();
                 state.channel.taken = vec![made, taken];
             })
         };
-        assert_eq!(of(128, 64, 3), FINE);
-        assert_eq!(of(128, 63, 3), ["h: more than 64 behind"]);
+        assert_eq!(of(128, 104, 3), FINE);
+        assert_eq!(of(128, 103, 3), ["h: too far behind"]);
+        assert_eq!(of(24, 0, 3), FINE);
+        assert_eq!(of(25, 0, 3), ["h: too far behind"]);
         assert_eq!(of(128, 128, 3), FINE);
         assert_eq!(of(128, 129, 3), ["h: more taken than made"]);
         assert_eq!(of(65_535, 65_535, 3), FINE);

@@ -101,35 +101,41 @@ fn two_cards() -> Placement {
     Placement::new(2, &[0], &[(0b11, 0)])
 }
 
-/// So many broadcasts of task 0, each taken and delivered on card 0 and reported.
-fn broadcasts(count: u32) -> Vec<Told> {
-    let broadcast = |number| {
-        [
-            set(0, 0, number),
-            send_update(0),
-            dispatch(0),
-            take_broadcast(0),
-            deliver(0),
-            report(0),
-        ]
-    };
-    (1..=count).flat_map(broadcast).map(taken).collect()
+/// Task 0's update, which card 0 dispatches: the next broadcast.
+fn broadcast(number: u32) -> [Told; 3] {
+    [set(0, 0, number), send_update(0), dispatch(0)].map(taken)
 }
 
-/// Card 1 takes nothing: broadcast 64 passes, 65 gives 34 (RULES 7.5).
+/// Card 0 takes and delivers the broadcast, and task 0 reports.
+fn at_home() -> [Told; 3] {
+    [take_broadcast(0), deliver(0), report(0)].map(taken)
+}
+
+/// Card 1 takes nothing: broadcast 24 passes, 25 gives 34 (RULES 7.5).
 pub fn k11() -> Named {
-    let mut steps = broadcasts(64);
-    steps.push(taken(set(0, 0, 65)));
+    let mut steps = Vec::new();
+    for number in 1..=24 {
+        steps.extend(broadcast(number));
+        steps.extend(at_home());
+    }
+    steps.push(taken(set(0, 0, 25)));
     steps.push(taken(send_update(0)));
     steps.push(refused(dispatch(0), 34));
     told("K11", two_cards(), &steps)
 }
 
-/// Card 1 delivers nothing: take 32 passes, 33 gives 35 (RULES 7.6).
+/// Both cards take each broadcast as it comes, and card 1 delivers nothing: its take 32 passes, 33
+/// gives 35 (RULES 7.6).
 pub fn k12() -> Named {
-    let mut steps = broadcasts(33);
-    steps.extend([taken(take_broadcast(1)); 32]);
-    steps.push(refused(take_broadcast(1), 35));
+    let mut steps = Vec::new();
+    for number in 1..=33 {
+        steps.extend(broadcast(number));
+        steps.extend(at_home());
+        steps.push(match number {
+            33 => refused(take_broadcast(1), 35),
+            _ => taken(take_broadcast(1)),
+        });
+    }
     told("K12", two_cards(), &steps)
 }
 
@@ -170,5 +176,17 @@ mod tests {
         assert_eq!(after(k10(), 12).channel.held[0].len(), 1);
         assert_eq!(after(k10(), 15).channel.held[0].len(), 0);
         assert_eq!(after(k10(), 15).channel.inbox[0].len(), 2);
+    }
+
+    /// No card is more than one behind.
+    #[test]
+    fn k12_inside() {
+        for steps in 0..=231 {
+            let channel = after(k12(), steps).channel;
+            let mut taken = channel.taken.iter();
+            assert!(taken.all(|taken| channel.made - taken <= 1));
+        }
+        let end = after(k12(), 231).channel;
+        assert_eq!((end.made, end.taken), (33, vec![33, 32]));
     }
 }

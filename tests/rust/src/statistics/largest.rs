@@ -1,6 +1,6 @@
 //! The longest queues of a run.
 
-use crate::model::channel::Channel;
+use crate::model::channel::{Channel, BEHIND, HELD, INBOX, OUTBOX, UNDELIVERED};
 
 /// The largest numbers seen.
 #[derive(Clone, Copy, Debug, Default, PartialEq, Eq)]
@@ -14,11 +14,11 @@ pub struct Largest {
 
 /// What a run can reach at most (RULES 7.1 to 7.3, 7.5, 7.6).
 pub const LIMITS: Largest = Largest {
-    outbox: 16,
-    inbox: 48,
-    undelivered: 32,
-    held: 16,
-    behind: 64,
+    outbox: OUTBOX,
+    inbox: INBOX,
+    undelivered: UNDELIVERED,
+    held: HELD,
+    behind: BEHIND,
 };
 
 impl Largest {

@@ -3,6 +3,7 @@
 use super::view;
 use crate::folder::File;
 use crate::generate;
+use crate::model::channel::{BEHIND, UNDELIVERED};
 use crate::model::files::{RawStep, Run};
 use crate::model::placement::Placement;
 use crate::random::Random;
@@ -122,19 +123,21 @@ fn every_phrase() -> Vec<u8> {
         perform(2),
         report(2),
     ];
-    // Updates, home is one of several holders, until card 1 is 64 behind.
-    for number in 2..=64 {
-        steps.extend([
-            request_update(0, 0, 2, number),
-            send_update(0),
-            dispatch(0),
-            take_broadcast(0),
-            deliver(0),
-            report(0),
-        ]);
+    // Updates, home is one of several holders. Card 1 takes nothing until it is as far behind as it can
+    // be and one more is refused; then it takes each as it comes, until its inbox has no room for one.
+    for number in 2..=UNDELIVERED as u32 + 1 {
+        steps.extend([request_update(0, 0, 2, number), send_update(0), dispatch(0)]);
+        if number == BEHIND + 1 {
+            // It passes when the other cards have taken all.
+            steps.extend([take_broadcast(1); BEHIND as usize]);
+            steps.extend([take_broadcast(2); BEHIND as usize - 1]);
+            steps.push(dispatch(0));
+        }
+        steps.extend([take_broadcast(0), deliver(0), report(0)]);
+        if number > BEHIND {
+            steps.push(take_broadcast(1));
+        }
     }
-    steps.extend([set(0, 0, 65), send_update(0), dispatch(0)]);
-    steps.extend([take_broadcast(1); 33]);
     Run { placement, steps }.write()
 }
 

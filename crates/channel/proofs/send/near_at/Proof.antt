@@ -18,6 +18,9 @@ wide-requires-2 c κs = search needs
 add-result : tie.Need-add-result
 add-result c = search needs
 
+cast-result : tie.Need-cast-result
+cast-result c = search needs
+
 add-result-2 : tie.Need-add-result-2
 add-result-2 c = search needs
 
@@ -34,5 +37,6 @@ near-at-spec =
     made-requires
     wide-requires-2
     add-result
+    cast-result
     add-result-2
     returns)

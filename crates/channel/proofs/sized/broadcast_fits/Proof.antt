@@ -1,6 +1,7 @@
 use Prim.Native.Nat.{_+_, _*_, _%_}
 use mathlib.Core.Path.{_≡_}
 use native.Mathlib.Omega.{arith}
+use Rattle.automaton.specs.MostBehind.{mostBehind}
 use Rattle.channel.specs.Sized.{broadcastFits}
 use borrow.Author.Needs.{needs}
 use Rattle.channel.proofs.sized.broadcast_fits.Statement.{statement}
@@ -23,7 +24,7 @@ several-requires c κs = search needs
 
 returns : tie.Need-returns
 unfolding broadcastFits
-returns c = let e : (c .before .before .before .args .place) % 64 ≡ c .before .before .before .args .place = omega arith in rw (e, ← (c .before .before .to-at .ensures), ← (c .before .block-fits .ensures), ← (c .several .ensures))
+returns c = let e : (c .before .before .before .args .place) % mostBehind ≡ c .before .before .before .args .place = omega arith in rw (e, ← (c .before .before .to-at .ensures), ← (c .before .block-fits .ensures), ← (c .several .ensures))
 
 pub broadcast-fits-spec : {M : Type 1} → statement M
 broadcast-fits-spec =

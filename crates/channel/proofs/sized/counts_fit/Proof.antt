@@ -15,6 +15,9 @@ made-requires c κs = search needs
 wide-requires-2 : tie.Need-wide-requires-2
 wide-requires-2 c κs = search needs
 
+cast-result : tie.Need-cast-result
+cast-result c = search needs
+
 add-result : tie.Need-add-result
 add-result c = search needs
 
@@ -39,6 +42,7 @@ counts-fit-spec =
     wide-requires
     made-requires
     wide-requires-2
+    cast-result
     add-result
     head-of-requires
     count-of-requires

@@ -3,6 +3,7 @@ use mathlib.Core.List.{List}
 use Prim.Native.Nat.{ℕ}
 use native.Mathlib.Omega.{arith}
 use lib.ListN.{replicate}
+use Rattle.channel.specs.Layout.{channelWords}
 use Rattle.store.specs.Run.{Store, started}
 use Rattle.runfile.specs.RunFile.{stepsIn, stepIn, placementIn, codesAt, primariesAt, copiesAt, fileLength}
 use Rattle.runfile.specs.AnswerFile.{headed, putAnswers}
@@ -24,7 +25,7 @@ same-length c = c .before .before .go .kept .1 .0
 
 returns : tie.Need-returns
 returns c = let s = c .before .before .before .before .before .before .before .before .before .before .before .args .file .now in let o = c .before .before .before .before .before .before .before .before .before .before .before .args .out .now in
-    let m : Store = stored (replicate 593 0) (replicate 1364 0) in
+    let m : Store = stored (replicate 593 0) (replicate channelWords 0) in
     let same : stored (c .before .before .before .before .before .before .begin .last .1 .0) (c .before .before .before .before .before .before .begin .last .1 .1 .0) ≡ started (placementIn s) m = ap₂ (λ (a : List ℕ) (b : List ℕ). stored a b) (c .before .before .before .before .before .before .begin .ensures .0) (c .before .before .before .before .before .before .begin .ensures .1) in (
       c .before .before .go .ensures .0 ∙ ap (λ q. counted (answerAt (stepIn s) q) (stepsIn s)) same ∙ run-counts s (c .before .before .before .before .before .before .before .before .before .before .before .pre .0) m o (c .before .before .before .before .before .before .before .before .before .before .before .pre .1),
       c .before .before .go .ensures .1 ∙ ap (λ q. putAnswers (stepsIn s) (answerAt (stepIn s) q) (stepsIn s) (headed (stepsIn s) o)) same ∙ run-output s (c .before .before .before .before .before .before .before .before .before .before .before .pre .0) m o (c .before .before .before .before .before .before .before .before .before .before .before .pre .1),

@@ -3,6 +3,7 @@
 use super::last;
 use super::row::{Rows, MOST};
 use crate::memory;
+use crate::model::channel::BEHIND;
 
 pub fn counts(rows: &mut Rows) {
     let [cards, tasks, present] = rows.sizes();
@@ -37,8 +38,8 @@ pub fn counts(rows: &mut Rows) {
         card,
         &[
             (made, true),
-            (made - 64, true),
-            (made.wrapping_sub(65), false),
+            (made - BEHIND, true),
+            (made.wrapping_sub(BEHIND + 1), false),
             (made + 1, false),
             (MOST, false),
         ],

@@ -3,6 +3,7 @@
 use super::row::{below, sets, Rows, MOST};
 use super::{last, FLIGHT, HELD, INBOX, OUTBOX};
 use crate::memory;
+use crate::model::channel::BEHIND;
 
 pub fn messages(rows: &mut Rows) {
     let [cards, tasks, registers] = rows.sizes();
@@ -27,7 +28,7 @@ pub fn messages(rows: &mut Rows) {
         (
             "an old broadcast",
             true,
-            memory::broadcast_message(made - 63),
+            memory::broadcast_message(made - (BEHIND - 1)),
         ),
     ];
     for place in messages {
