@@ -7,9 +7,28 @@ mod functions;
 use crate::model::files::{answer_from, Run};
 use crate::model::State;
 use crate::statistics::Statistics;
+use crate::stored;
 
 /// How far behind a card could be up to version 0.4.0.
 const BEHIND_THEN: u32 = 64;
+
+/// The runs stored at version 0.4.0 and the checksums of their files, which are as they were; all but
+/// `counts`, `full3` and `mixed` are of 0.2.0. `past1` to `past4` were `k11`, `k12`, `behind` and
+/// `inbox`.
+const FILES: [(&str, u64); 12] = [
+    ("past1", 0xE65B_7005_50C7_8E5F),
+    ("past2", 0xF07C_3BE4_5331_A0A2),
+    ("past3", 0xF3D5_93A2_95FD_27DF),
+    ("past4", 0x5CEC_5F59_E713_82F1),
+    ("outbox", 0x3A72_510A_F9A8_B691),
+    ("held", 0xBFF5_F152_C510_EC59),
+    ("counts", 0x72FD_15B0_4D6C_07FD),
+    ("full1", 0xE861_7313_F2A3_705A),
+    ("full2", 0x6779_3BD2_0D05_6BDF),
+    ("guided", 0x5E31_5025_3A8B_0339),
+    ("full3", 0x84CF_56CF_64D0_C4CE),
+    ("mixed", 0x2CD5_48EE_3BD2_81CF),
+];
 
 /// FNV-1a in 64 bits.
 fn checksum(bytes: &[u8]) -> u64 {
@@ -39,4 +58,11 @@ fn statistics(run: &Run) -> Statistics {
 
 fn read(file: &[u8]) -> Run {
     Run::read(file).expect("an accepted file")
+}
+
+#[test]
+fn files_are_as_they_were() {
+    for (name, kept) in FILES {
+        assert_eq!(checksum(&stored::file(name)), kept, "{name}");
+    }
 }

@@ -2,42 +2,26 @@
 //! which some card was then further behind than it can be now is worked out again; any other is
 //! answered as it was.
 
-use super::{answered, checksum, read, statistics};
+use super::{answered, checksum, read, statistics, FILES};
 use crate::generate;
 use crate::model::channel::BEHIND;
 use crate::model::files::{program_output, Run};
 use crate::{named, stored};
 
-/// Each run stored then: the checksums of its file and of its answer, and whether the answer is worked
-/// out again. `past1` to `past4` were `k11`, `k12`, `behind` and `inbox`.
-const RUNS: [(&str, u64, u64, bool); 12] = [
-    ("past1", 0xE65B_7005_50C7_8E5F, 0x7E8D_30F0_8A50_FAF9, true),
-    ("past2", 0xF07C_3BE4_5331_A0A2, 0xB34B_1BA8_14A0_0CE3, true),
-    ("past3", 0xF3D5_93A2_95FD_27DF, 0x60C2_0533_8B8F_8E4B, true),
-    ("past4", 0x5CEC_5F59_E713_82F1, 0x0FCB_6258_33EE_2434, true),
-    (
-        "outbox",
-        0x3A72_510A_F9A8_B691,
-        0x9C31_1A20_E8E0_6AEB,
-        false,
-    ),
-    ("held", 0xBFF5_F152_C510_EC59, 0x8175_916C_018C_6343, false),
-    (
-        "counts",
-        0x72FD_15B0_4D6C_07FD,
-        0x463A_4689_BE16_9CFA,
-        false,
-    ),
-    ("full1", 0xE861_7313_F2A3_705A, 0x2C8B_8F57_1060_8B70, true),
-    ("full2", 0x6779_3BD2_0D05_6BDF, 0x41A9_17F7_8266_ED46, true),
-    (
-        "guided",
-        0x5E31_5025_3A8B_0339,
-        0x591A_F6FD_A77D_C020,
-        false,
-    ),
-    ("full3", 0x84CF_56CF_64D0_C4CE, 0x3ED2_BB1E_70F6_5AC6, true),
-    ("mixed", 0x2CD5_48EE_3BD2_81CF, 0x71CF_E5ED_EEFB_FB17, false),
+/// Each run stored then, the checksum of its answer, and whether that is worked out again.
+const RUNS: [(&str, u64, bool); 12] = [
+    ("past1", 0x7E8D_30F0_8A50_FAF9, true),
+    ("past2", 0xB34B_1BA8_14A0_0CE3, true),
+    ("past3", 0x60C2_0533_8B8F_8E4B, true),
+    ("past4", 0x0FCB_6258_33EE_2434, true),
+    ("outbox", 0x9C31_1A20_E8E0_6AEB, false),
+    ("held", 0x8175_916C_018C_6343, false),
+    ("counts", 0x463A_4689_BE16_9CFA, false),
+    ("full1", 0x2C8B_8F57_1060_8B70, true),
+    ("full2", 0x41A9_17F7_8266_ED46, true),
+    ("guided", 0x591A_F6FD_A77D_C020, false),
+    ("full3", 0x3ED2_BB1E_70F6_5AC6, true),
+    ("mixed", 0x71CF_E5ED_EEFB_FB17, false),
 ];
 
 /// Whether some card was then further behind than it can be now.
@@ -57,9 +41,9 @@ const REFUSED: (u8, u8) = (0, 34);
 
 #[test]
 fn stored_answers() {
-    for (name, kept, then, again) in RUNS {
+    assert!(RUNS.iter().map(|run| run.0).eq(FILES.map(|file| file.0)));
+    for (name, then, again) in RUNS {
         let file = stored::file(name);
-        assert_eq!(checksum(&file), kept, "{name}");
         assert_eq!(checksum(&answered(&read(&file))), then, "{name}");
         assert_eq!(past(&file), again, "{name}");
         assert_eq!(changed(&file), again.then_some(REFUSED), "{name}");

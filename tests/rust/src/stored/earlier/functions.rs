@@ -9,23 +9,17 @@ use crate::model::files::Run;
 use crate::statistics::Sum;
 use crate::{named, stored};
 
-/// Each run stored then: the checksums of its file and of its answer, and whether the answer was worked
-/// out again. `past1` to `past4` were `k11`, `k12`, `behind` and `inbox`.
-const RUNS: [(&str, u64, u64, bool); 9] = [
-    ("past1", 0xE65B_7005_50C7_8E5F, 0x7E8D_30F0_8A50_FAF9, false),
-    ("past2", 0xF07C_3BE4_5331_A0A2, 0xB34B_1BA8_14A0_0CE3, false),
-    ("past3", 0xF3D5_93A2_95FD_27DF, 0x60C2_0533_8B8F_8E4B, false),
-    (
-        "outbox",
-        0x3A72_510A_F9A8_B691,
-        0x9C31_1A20_E8E0_6AEB,
-        false,
-    ),
-    ("past4", 0x5CEC_5F59_E713_82F1, 0x0FCB_6258_33EE_2434, false),
-    ("held", 0xBFF5_F152_C510_EC59, 0x8175_916C_018C_6343, false),
-    ("full1", 0xE861_7313_F2A3_705A, 0xE96A_CDE3_3EA6_A5DC, true),
-    ("full2", 0x6779_3BD2_0D05_6BDF, 0x8F1C_05E0_DD99_B7A9, true),
-    ("guided", 0x5E31_5025_3A8B_0339, 0x783E_A9F9_1687_45B4, true),
+/// Each run stored then, the checksum of its answer, and whether that was worked out again.
+const RUNS: [(&str, u64, bool); 9] = [
+    ("past1", 0x7E8D_30F0_8A50_FAF9, false),
+    ("past2", 0xB34B_1BA8_14A0_0CE3, false),
+    ("past3", 0x60C2_0533_8B8F_8E4B, false),
+    ("outbox", 0x9C31_1A20_E8E0_6AEB, false),
+    ("past4", 0x0FCB_6258_33EE_2434, false),
+    ("held", 0x8175_916C_018C_6343, false),
+    ("full1", 0xE96A_CDE3_3EA6_A5DC, true),
+    ("full2", 0x8F1C_05E0_DD99_B7A9, true),
+    ("guided", 0x783E_A9F9_1687_45B4, true),
 ];
 
 /// The run with its functions in today's numbers, as they were meant then.
@@ -64,9 +58,8 @@ fn touched(file: &[u8]) -> bool {
 
 #[test]
 fn stored_answers() {
-    for (name, kept, then, again) in RUNS {
+    for (name, then, again) in RUNS {
         let file = stored::file(name);
-        assert_eq!(checksum(&file), kept, "{name}");
         assert_eq!(checksum(&answered_then(&file)), then, "{name}");
         assert_eq!(touched(&file), again, "{name}");
         assert_eq!(differs(&file), again, "{name}");
