@@ -15,10 +15,11 @@
 //! Processor time, medians of rounds taken in turn. Every round begins from new states; outputs are
 //! not cleared between rounds. In each round all sides must answer the same. Before that, the tuned
 //! side is compared with the model on files of every kind (`agree`); its states made by hand are
-//! tried by `cargo test`.
+//! tried by `cargo test`. Run files written from their tables are timed as well (`write`).
 
 mod agree;
 mod clock;
+mod write;
 
 use std::hint::black_box;
 use std::mem::size_of;
@@ -117,9 +118,12 @@ fn sum(total: u32, (result, value): (u8, u32)) -> u32 {
 fn main() {
     let (compared, steps_compared) = agree::tuned_with_model();
     println!("tuned and plain agree: {compared} files, {steps_compared} steps");
+    let (compared, calls) = write::tuned_with_model();
+    println!("and on files to be written: {compared} tables, {calls} calls");
     println!("nanoseconds a step: proved, plain, tuned");
     println!("file  taken |      whole run       |    checked steps     |   unchecked steps");
     let mut ratios = [const { [const { Vec::new() }; 2] }; 3];
+    let mut writes = [const { Vec::new() }; 3];
     for (number, file) in files().into_iter().enumerate() {
         let run = Run::read(&file).expect("an accepted file");
         let mut times = [const { [const { Vec::new() }; 3] }; 3];
@@ -133,6 +137,9 @@ fn main() {
                 steps(&file, &run, false),
             ];
             taken = tally.taken;
+            for (times, time) in writes.iter_mut().zip(write::written(&file)) {
+                times.push(time);
+            }
             for (times, time) in times.iter_mut().flatten().zip(round.into_iter().flatten()) {
                 times.push(time / STEPS as f64);
             }
@@ -152,6 +159,8 @@ fn main() {
         print!("median ratios proved/{name}: ");
         println!("whole runs {whole:.2}, checked steps {checked:.2}, unchecked {unchecked:.2}");
     }
+    let [proved, plain, tuned] = writes.map(median);
+    println!("a file of {STEPS} steps written: proved {proved:.0} ns, plain {plain:.0}, tuned {tuned:.0}");
     let (proved, tuned) = (size_of::<gondzselu::Store>(), size_of::<tuned::Store>());
     println!("a store: proved {proved} bytes, tuned {tuned} bytes");
 }

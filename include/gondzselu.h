@@ -32,7 +32,7 @@ extern "C" {
 /* ---- version */
 
 #define GONDZSELU_VERSION_MAJOR 0
-#define GONDZSELU_VERSION_MINOR 5
+#define GONDZSELU_VERSION_MINOR 6
 #define GONDZSELU_VERSION_PATCH 0
 #define GONDZSELU_VERSION \
     (GONDZSELU_VERSION_MAJOR * 1000000 + GONDZSELU_VERSION_MINOR * 1000 + GONDZSELU_VERSION_PATCH)
@@ -116,13 +116,13 @@ enum gondzselu_condition {
 };
 
 /* What the calls give (RULES 8.2). A refusal changes nothing that is lent; but the value of a step
- * and the length of a sentence are then 0, and a tally counts the step. */
+ * and the length of a sentence or of a written file are then 0, and a tally counts the step. */
 enum gondzselu_refusal {
     GONDZSELU_TAKEN = 0, /* no refusal: the step is taken; the file or placement is accepted */
     /* of a file or a placement */
     GONDZSELU_FILE_TOO_SHORT = 1,
     GONDZSELU_FILE_TOO_LONG = 2,
-    GONDZSELU_SIZE_OUT_OF_RANGE = 3,
+    GONDZSELU_SIZE_OUT_OF_RANGE = 3, /* or tables of unequal length */
     GONDZSELU_MISPLACED = 4, /* no copy, a copy or home on an absent card, a bad primary */
     /* of lent memory */
     GONDZSELU_OUTPUT_TOO_SHORT = 5,
@@ -265,6 +265,22 @@ static inline uint8_t gondzselu_fill_report(uint8_t argument[8], uint32_t task) 
     gondzselu_fill_bytes(argument, task, 0, 0, 0);
     return GONDZSELU_REPORT;
 }
+
+/* ---- writing a run file */
+
+/* Writes the run file (RULES 15) of a placement, as gondzselu_start takes it, and of steps: their
+ * codes, and their arguments one after another, so that arguments_length is 8 * codes_length. Steps
+ * are carried as they are, right or wrong: the run judges them (RULES 3.4). GONDZSELU_FILE_MAX
+ * bytes of output are always enough, and gondzselu_answer accepts every file that is written. Gives
+ * 0; or 3 for a size out of range or tables of unequal length, then 4 for the placement, then 5 for
+ * an output shorter than the file, with the output as it was. Bytes past the file stay as they
+ * were. Writes the length in every case: of the file, or 0. */
+uint8_t gondzselu_write(uint32_t cards, const uint8_t *homes, size_t homes_length,
+                        const uint8_t *copies, size_t copies_length,
+                        const uint8_t *primaries, size_t primaries_length,
+                        const uint8_t *codes, size_t codes_length,
+                        const uint8_t *arguments, size_t arguments_length,
+                        uint8_t *output, size_t output_length, uint32_t *length);
 
 /* ---- a refusal in words */
 

@@ -29,9 +29,11 @@ mod tasks;
 #[cfg(test)]
 mod tests;
 mod word;
+mod write;
 
 pub use run::answer;
 use word::{Message, READ, UPDATE};
+pub use write::{write, Tables};
 
 /// A result (0 taken, else the refusal) and a value.
 type Answer = (u8, u32);

@@ -13,6 +13,14 @@ struct Parts<'a> {
     arguments: &'a [[u8; 8]],
 }
 
+/// Of a number of cards in range and tables of equal length (RULES 8.2).
+pub fn placed(cards: u8, homes: &[u8], copies: &[u8], primaries: &[u8]) -> bool {
+    let lies = |(&holders, &primary): (&u8, &u8)| {
+        (holders as u32) >> cards == 0 && primary < cards && holders >> primary & 1 == 1
+    };
+    homes.iter().all(|&home| home < cards) && copies.iter().zip(primaries).all(lies)
+}
+
 impl<'a> Parts<'a> {
     /// Refused in the order of RULES 8.3.
     fn read(file: &'a [u8]) -> Result<Parts<'a>, u8> {
@@ -36,10 +44,7 @@ impl<'a> Parts<'a> {
         let (copies, rest) = rest.split_at(registers);
         let (primaries, rest) = rest.split_at(registers);
         let (codes, arguments) = rest.split_at(steps);
-        let placed = |(&holders, &primary): (&u8, &u8)| {
-            (holders as u32) >> cards == 0 && primary < cards && holders >> primary & 1 == 1
-        };
-        if homes.iter().any(|&home| home >= cards) || !copies.iter().zip(primaries).all(placed) {
+        if !placed(cards, homes, copies, primaries) {
             return Err(4);
         }
         Ok(Parts {

@@ -9,7 +9,7 @@
 
 enum { STEPS = GONDZSELU_STEPS_MAX, CODES = 5 + 16 + 2 * 32, PATTERN = 0xA5 };
 static uint8_t f[GONDZSELU_FILE_MAX] = {8, 32, 16, STEPS % 256, STEPS / 256}; /* a run file */
-static uint8_t out[GONDZSELU_ANSWER_MAX], stack[2 * GONDZSELU_STACK_ANSWER];
+static uint8_t out[GONDZSELU_FILE_MAX], stack[2 * GONDZSELU_STACK_ANSWER];
 static gondzselu_registers r;
 static gondzselu_channel c;
 static gondzselu_tally tally;
@@ -36,6 +36,11 @@ static void sentence(void) {
     for (int k = 0; k < 256; k++) gondzselu_sentence(UINT32_MAX, (uint8_t)k, out, sizeof out, &v);
     bad += gondzselu_sentence(UINT32_MAX, GONDZSELU_INBOX_FULL, out, GONDZSELU_SENTENCE_MAX, &v);
 }
+static void write_file(void) {
+    const uint8_t *codes = f + CODES;
+    bad += gondzselu_write(8, f + 5, 16, f + 21, 32, f + 53, 32, codes, STEPS, codes + STEPS,
+                           8 * STEPS, out, sizeof out, &v);
+}
 static void panel(void) { v = gondzselu_copy(&r, &c, 1, 1) + gondzselu_task_value(&r, &c, 1); }
 
 static int above(const char *name, void (*call)(void), size_t limit) {
@@ -56,9 +61,9 @@ static int above(const char *name, void (*call)(void), size_t limit) {
 int main(void) {
     fill();
     int over = above("answer", answer, GONDZSELU_STACK_ANSWER);
-    void (*const calls[])(void) = {start, start_file, step, advance, sentence, panel};
-    static const char *const names[] = {"start",   "start_file", "step",
-                                        "advance", "sentence",   "panel"};
-    for (int k = 0; k < 6; k++) over += above(names[k], calls[k], GONDZSELU_STACK_CALL);
+    void (*const calls[])(void) = {start, start_file, step, advance, sentence, write_file, panel};
+    static const char *const names[] = {"start",    "start_file", "step", "advance",
+                                        "sentence", "write",      "panel"};
+    for (int k = 0; k < 7; k++) over += above(names[k], calls[k], GONDZSELU_STACK_CALL);
     return over > 0 || bad > 0 || tally.taken < 500; /* a refused file would measure nothing */
 }

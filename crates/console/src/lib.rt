@@ -3,17 +3,20 @@
 // A place is where the next byte goes in the page, 0 to 65,536; 65,537 says that a write has failed, and nothing more is written. Each function
 // takes the place and answers the next one; `finish` writes what is left.
 mod ending;
+mod refusals;
 mod words;
 
 pub use ending::failed;
 pub use ending::read_whole;
 pub use ending::unread;
 pub use ending::unwritten;
+pub use refusals::refused_file;
 pub use words::column;
 pub use words::is_empty;
 pub use words::tell;
 pub use words::tell_one;
 pub use words::word;
+pub use words::word_of;
 
 // The page is full, or a write has failed before.
 fn turn(page: &mut [u8; 65536], at: usize, byte: u8) -> usize {

@@ -47,25 +47,27 @@ fn end_of(text: &[u8], from: usize, mark: u8) -> usize
     at
 }
 
-// Whether word k is empty or there are fewer words.
-pub fn is_empty(list: &[u8], k: u32) -> bool {
-    let start = start_of(list, k);
-    end_of(list, start, b';') == start
-}
-
 // Word k of a list, from 0; nothing where there are fewer.
-pub fn word(page: &mut [u8; 65536], at: usize, list: &[u8], k: u32) -> usize {
+pub fn word_of(list: &[u8], k: u32) -> &[u8] {
     let start = start_of(list, k);
     let end = end_of(list, start, b';');
-    say(page, at, &list[start..end])
+    &list[start..end]
+}
+
+// Whether word k is empty or there are fewer words.
+pub fn is_empty(list: &[u8], k: u32) -> bool {
+    word_of(list, k).len() == 0
+}
+
+pub fn word(page: &mut [u8; 65536], at: usize, list: &[u8], k: u32) -> usize {
+    say(page, at, word_of(list, k))
 }
 
 // The same in a column.
 pub fn column(page: &mut [u8; 65536], at: usize, list: &[u8], k: u32, width: usize) -> usize {
-    let start = start_of(list, k);
-    let end = end_of(list, start, b';');
-    let next = say(page, at, &list[start..end]);
-    pad(page, next, end - start, width)
+    let word = word_of(list, k);
+    let next = say(page, at, word);
+    pad(page, next, word.len(), width)
 }
 
 fn nth(page: &mut [u8; 65536], at: usize, numbers: &[u32], k: usize) -> usize {

@@ -10,6 +10,7 @@ ghost use Rattle.tables.specs.Panel.{valueShown, doingShown};
 ghost use Rattle.tables.specs.Doings.{doingKind, doingValue};
 ghost use Rattle.runfile.specs.RunFile.{fileRefusal};
 ghost use Rattle.runfile.specs.Run.{fileRegisters, fileChannel, answerRefusal, answerOutput};
+ghost use Rattle.runfile.specs.Compose.{tables, composeOutput, composedOf};
 ghost use Rattle.firmware.specs.RunTally.{ranTally};
 ghost use Rattle.firmware.specs.StepTally.{countsOf};
 ghost use Rattle.tally.specs.Tally.{countedStep};
@@ -38,9 +39,9 @@ pub extern "C" fn gondzselu_channel_words() -> usize
 // The version of what is offered: major * 1,000,000 + minor * 1,000 + patch.
 #[no_mangle]
 pub extern "C" fn gondzselu_version() -> u32
-    ensures { λ r. ⌜ r ≡ 5000 ⌝ }
+    ensures { λ r. ⌜ r ≡ 6000 ⌝ }
 {
-    5000
+    6000
 }
 
 // ---- a whole run
@@ -64,6 +65,28 @@ pub extern "C" fn gondzselu_answer_counted(file: &[u8], out: &mut [u8], tally: &
 {
     let said = runfile::answer(file, out);
     tally::count(tally, said.taken, said.refused);
+    said.refusal
+}
+
+// Writes the run file of a placement and of a table of codes and one of arguments, eight bytes a step, into a lent output: 0, or the refusal of
+// the tables (3, 4) or of the output (5) and the output as it was. The length is the file's, 0 where it is refused.
+#[no_mangle]
+pub extern "C" fn gondzselu_write(
+    cards: u32,
+    homes: &[u8],
+    copies: &[u8],
+    primaries: &[u8],
+    codes: &[u8],
+    arguments: &[u8],
+    out: &mut [u8],
+    length: &mut u32,
+) -> u8
+    ensures output { λ _. ⌜ now (out .exit) ≡ composeOutput (tables cards (now (homes .entry)) (now (copies .entry)) (now (primaries .entry)) (now (codes .entry)) (now (arguments .entry))) (now (out .entry)) ⌝ }
+    ensures length { λ _. ⌜ now (length .exit) ≡ composedOf (tables cards (now (homes .entry)) (now (copies .entry)) (now (primaries .entry)) (now (codes .entry)) (now (arguments .entry))) (now (out .entry)) .length ⌝ }
+    ensures number { λ r. ⌜ r ≡ composedOf (tables cards (now (homes .entry)) (now (copies .entry)) (now (primaries .entry)) (now (codes .entry)) (now (arguments .entry))) (now (out .entry)) .refusal ⌝ }
+{
+    let said = runfile::compose(cards, homes, copies, primaries, codes, arguments, out);
+    *length = said.length;
     said.refusal
 }
 

@@ -100,7 +100,7 @@ pub fn is_placed(cards: u32, homes: &[u8], copies: &[u8], primaries: &[u8]) -> b
 }
 
 // Whether the sizes are in range; the numbers of registers and tasks are the tables' lengths.
-fn is_sized(cards: u32, homes: &[u8], copies: &[u8], primaries: &[u8]) -> bool
+pub fn is_sized(cards: u32, homes: &[u8], copies: &[u8], primaries: &[u8]) -> bool
     ensures { λ r. ⌜ r ≡ sized (placement cards (now (homes .entry)) (now (copies .entry)) (now (primaries .entry))) ⌝ }
 {
     if !sizes_in_range(cards as usize, copies.len(), homes.len()) {

@@ -3,9 +3,14 @@ pub mod Joined
 pub mod AnswerLaws
 pub mod WriteLaws
 pub mod RunFileLaws
+pub mod TableBytes
+pub mod FileTables
 pub mod LongFile
 pub mod FileMeaning
 pub mod AnswerMeaning
+pub mod ComposeNumbers
+pub mod ReadBack
+pub mod ComposeLaws
 -- Whole runs
 pub mod Eight
 pub mod StepwiseLaws

@@ -1,22 +1,20 @@
 -- What an accepted run file is, and which file meets which refusal, in plain terms.
-use Prim.Native.Nat.{ℕ, _+_, _*_, _≤_, _<_}
-use mathlib.Core.Path.{_≡_, refl, sym, ap, ap₂, _∙_, subst}
+use Prim.Native.Nat.{ℕ, _+_, _≤_, _<_}
+use mathlib.Core.Path.{_≡_, refl, sym, _∙_, subst}
 use mathlib.Core.Logic.{_↔_}
 use mathlib.Core.Bool.{Bool, true, false, cond}
-use mathlib.Core.List.{List, [], _∷_, _++_, map, append-assoc}
+use mathlib.Core.List.{List}
 use native.Mathlib.Omega.{arith}
 use lib.Dec.{ltb, leb}
-use lib.ListN.{length, getD, take, drop, take-append-drop, length-drop}
-use lib.Seq.{take-all}
+use lib.ListN.{length, getD}
 use borrow.Author.Tests.{ltb-true, ltb-false, lt-ltb, le-ltb, leb-true, le-leb}
 use Rattle.lists.specs.Tests.{and-fst, and-snd, and-intro, clash, false-of}
-use Rattle.lists.specs.Parts.{part, part-whole, part-split, part-at}
-use Rattle.lists.specs.Listings.{listing, listing-length, listing-all, map-listing}
+use Rattle.lists.specs.Parts.{part, part-whole, part-at}
+use Rattle.lists.specs.Listings.{listing-length}
 use Rattle.names.specs.Placement.{tasks, registers, sizesInRange, placed, placementRefusal}
 use Rattle.names.proofs.PlacementLaws.{InRange, Lies, Sized, in-range, placed-is, placement-verdict}
 use Rattle.names.proofs.PlacementLaws.PlacementVerdict.{accepted as accepted-one}
-use Rattle.runfile.specs.RunFile.{cardsIn, registersIn, tasksIn, stepsIn, copiesAt, primariesAt, codesAt, argumentsAt, fileLength, placementIn, codeIn, argumentIn, stepIn, runFileIn, sizesSound, fileRefusal, twoBytes, joined, fileBytes}
-use Rattle.runfile.proofs.Joined.{joined-pieces}
+use Rattle.runfile.specs.RunFile.{cardsIn, registersIn, tasksIn, stepsIn, copiesAt, primariesAt, fileLength, placementIn, stepIn, runFileIn, sizesSound, fileRefusal}
 
 -- ---- the tests of a file
 
@@ -42,19 +40,19 @@ module _ (s : List ℕ) where
 
   -- where the file has the length of its sizes, the tables of its placement have the sizes' lengths
   module _ (whole : length s ≡ fileLength s) where
-    homes-length : tasks (placementIn s) ≡ tasksIn s
+    pub homes-length : tasks (placementIn s) ≡ tasksIn s
     unfolding placementIn fileLength
     homes-length = part-whole s 5 (tasksIn s) (omega arith)
 
-    copies-length : registers (placementIn s) ≡ registersIn s
+    pub copies-length : registers (placementIn s) ≡ registersIn s
     unfolding placementIn fileLength copiesAt
     copies-length = part-whole s (copiesAt s) (registersIn s) (omega arith)
 
-    primaries-length : length (placementIn s .primaries) ≡ registersIn s
+    pub primaries-length : length (placementIn s .primaries) ≡ registersIn s
     unfolding placementIn fileLength primariesAt copiesAt
     primaries-length = part-whole s (primariesAt s) (registersIn s) (omega arith)
 
-    well-placed : (placed (placementIn s) ≡ true) ↔ WellPlaced
+    pub well-placed : (placed (placementIn s) ≡ true) ↔ WellPlaced
     unfolding placementIn primariesAt copiesAt
     well-placed =
         let n = homes-length in
@@ -132,17 +130,6 @@ file-verdict s n = (
 
 -- ---- an accepted file
 
-five : (s : List ℕ) → 5 ≤ length s → take 5 s ≡ getD s 0 0 ∷ getD s 1 0 ∷ getD s 2 0 ∷ getD s 3 0 ∷ getD s 4 0 ∷ []
-five (a ∷ b ∷ c ∷ d ∷ e ∷ r) h = refl
-five (a ∷ b ∷ c ∷ d ∷ []) h = absurd (omega arith)
-five (a ∷ b ∷ c ∷ []) h = absurd (omega arith)
-five (a ∷ b ∷ []) h = absurd (omega arith)
-five (a ∷ []) h = absurd (omega arith)
-five [] h = absurd (omega arith)
-
-in-a-row : (a b c d e f : List ℕ) → a ++ (b ++ (c ++ (d ++ (e ++ f)))) ≡ a ++ b ++ c ++ d ++ e ++ f
-in-a-row a b c d e f = simp append-assoc
-
 module _ (s : List ℕ) (ok : fileRefusal s ≡ 0) where
   of-verdict : {n : ℕ} → FileVerdict s n → n ≡ 0 → SizesInRange s × (length s ≡ fileLength s) × WellPlaced s
   of-verdict (under-five a) e = absurd (omega arith)
@@ -157,6 +144,12 @@ module _ (s : List ℕ) (ok : fileRefusal s ≡ 0) where
 
   pub accepted-length : length s ≡ fileLength s
   accepted-length = facts .1
+
+  pub accepted-sizes : SizesInRange s
+  accepted-sizes = facts .0
+
+  pub accepted-placed : placed (placementIn s) ≡ true
+  accepted-placed = well-placed s (facts .1) .1 (facts .2)
 
   -- the placement has the tasks and registers that the sizes say
   pub accepted-tasks : tasks (placementIn s) ≡ tasksIn s
@@ -174,54 +167,10 @@ module _ (s : List ℕ) (ok : fileRefusal s ≡ 0) where
   accepted-placement =
       let range : InRange (cardsIn s) (registers (placementIn s)) (tasks (placementIn s)) = rw (accepted-tasks, accepted-registers) (facts .0 .0) in
       let sizes : Sized (placementIn s) = (range, accepted-primaries ∙ sym accepted-registers) in
-      placement-verdict (placementIn s) 0 .1 (accepted-one sizes (placed-is (placementIn s) .0 (well-placed s (facts .1) .1 (facts .2))))
+      placement-verdict (placementIn s) 0 .1 (accepted-one sizes (placed-is (placementIn s) .0 accepted-placed))
 
   pub accepted-most : stepsIn s ≤ 4096
   accepted-most = facts .0 .1
 
   pub accepted-steps : length (runFileIn s .steps) ≡ stepsIn s
   accepted-steps = listing-length (stepIn s) (stepsIn s)
-
-  codes : map (λ k. k .code) (runFileIn s .steps) ≡ part s (codesAt s) (stepsIn s)
-  unfolding codeIn fileLength codesAt primariesAt copiesAt
-  codes =
-      let l = facts .1 in
-      let n : length (part s (codesAt s) (stepsIn s)) ≡ stepsIn s = part-whole s (codesAt s) (stepsIn s) (omega arith) in
-      map-listing (λ k. k .code) (stepIn s) (stepsIn s) ∙ ap (listing (codeIn s)) (sym n) ∙ listing-all (part s (codesAt s) (stepsIn s)) 0
-
-  arguments : joined (map (λ k. k .argument) (runFileIn s .steps)) ≡ drop (argumentsAt s) s
-  unfolding argumentIn fileLength argumentsAt codesAt primariesAt copiesAt
-  arguments =
-      let l = facts .1 in
-      let p : List ℕ = part s (argumentsAt s) (8 * stepsIn s) in
-      let n : length p ≡ 8 * stepsIn s = part-whole s (argumentsAt s) (8 * stepsIn s) (omega arith) in
-      ap joined (map-listing (λ k. k .argument) (stepIn s) (stepsIn s))
-      ∙ joined-pieces (λ i. getD p i 0) 8 (stepsIn s)
-      ∙ ap (listing (λ i. getD p i 0)) (sym n)
-      ∙ listing-all p 0
-      ∙ take-all (8 * stepsIn s) (drop (argumentsAt s) s) (let d = length-drop (argumentsAt s) s in omega arith)
-
-  -- the bytes are those of the layout, in its order, for what the file holds
-  pub accepted-layout : ((i : ℕ) → getD s i 0 < 256) → s ≡ fileBytes (runFileIn s)
-  unfolding fileBytes placementIn stepsIn argumentsAt codesAt primariesAt copiesAt fileLength
-  accepted-layout byte =
-      let l = facts .1 in
-      let low = byte 3 in
-      let high = byte 4 in
-      let n = accepted-steps in
-      let two : twoBytes (length (runFileIn s .steps)) ≡ getD s 3 0 ∷ getD s 4 0 ∷ [] = ap₂ (λ a b. a ∷ b ∷ []) (omega arith) (omega arith) in
-      let fiveBytes : List ℕ = cardsIn s ∷ registers (placementIn s) ∷ tasks (placementIn s) ∷ twoBytes (length (runFileIn s .steps)) in
-      let head : take 5 s ≡ fiveBytes =
-      five s (omega arith)
-      ∙ sym (ap₂ (λ (r : ℕ) (t : ℕ). cardsIn s ∷ r ∷ t ∷ twoBytes (length (runFileIn s .steps))) accepted-registers accepted-tasks ∙ ap (λ b. cardsIn s ∷ registersIn s ∷ tasksIn s ∷ b) two) in
-      let rest : drop (codesAt s) s ≡ map (λ k. k .code) (runFileIn s .steps) ++ joined (map (λ k. k .argument) (runFileIn s .steps)) =
-      part-split s (codesAt s) (stepsIn s) ∙ sym (ap₂ _++_ codes arguments) in
-      let homes : List ℕ = part s 5 (tasksIn s) in
-      let copies : List ℕ = part s (copiesAt s) (registersIn s) in
-      let primaries : List ℕ = part s (primariesAt s) (registersIn s) in
-      sym (take-append-drop 5 s)
-      ∙ ap₂ _++_ head (part-split s 5 (tasksIn s))
-      ∙ ap (λ r. fiveBytes ++ (homes ++ r)) (part-split s (copiesAt s) (registersIn s))
-      ∙ ap (λ r. fiveBytes ++ (homes ++ (copies ++ r))) (part-split s (primariesAt s) (registersIn s))
-      ∙ ap (λ r. fiveBytes ++ (homes ++ (copies ++ (primaries ++ r)))) rest
-      ∙ in-a-row fiveBytes homes copies primaries (map (λ k. k .code) (runFileIn s .steps)) (joined (map (λ k. k .argument) (runFileIn s .steps)))

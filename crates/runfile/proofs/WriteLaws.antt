@@ -9,7 +9,7 @@ use lib.Seq.{sets, sets-eq, take-suc, length-take-le}
 use Rattle.lists.specs.Parts.{sets-in-tail, sets-append}
 use Rattle.lists.specs.Listings.{listing, listing-all, listing-length, map-listing}
 use Rattle.runfile.specs.RunFile.{twoBytes, joined}
-use Rattle.runfile.specs.AnswerFile.{fourBytes, answerBytes, answered, wordStored, headed, resultsPut, valueBytes, valuesFilled, answerAt, answersOf}
+use Rattle.runfile.specs.AnswerFile.{fourBytes, answerBytes, answered, wordStored, headed, valueBytes, valuesFilled, answerAt, answersOf}
 
 value-bytes-append : (us vs : List ℕ) → valueBytes (us ++ vs) ≡ valueBytes us ++ valueBytes vs
 value-bytes-append [] vs = refl
@@ -51,10 +51,10 @@ module _ (results values out : List ℕ) (same : length values ≡ length result
 
   -- the output after the results
   abbrev ys : List ℕ
-  ys = resultsPut results (headed n out)
+  ys = sets (headed n out) 2 results
 
   pub writes-answered : take (2 + n) ys ++ valuesFilled values (drop (2 + n) ys) ≡ answered (answersOf results values) out
-  unfolding resultsPut valuesFilled headed answered
+  unfolding valuesFilled headed answered
   writes-answered =
       let bytes : List ℕ = twoBytes n ++ results ++ valueBytes values in
       let s = length-append (twoBytes n) results in

@@ -46,10 +46,6 @@ putAnswers n answer k out = turns (λ j. putAnswer n j (answer j)) k out
 
 -- ---- a whole answer file from two tables
 
--- the results, from byte 2 on
-unfoldable pub resultsPut : List ℕ → List ℕ → List ℕ
-resultsPut results out = sets out 2 results
-
 -- the array of values
 abbrev pub valueBytes : List ℕ → List ℕ
 valueBytes values = joined (map fourBytes values)

@@ -1,8 +1,10 @@
 pub mod RunFile
 pub mod AnswerFile
+pub mod Compose
 -- What they mean, stated apart from the definitions
 pub mod FileMeaning
 pub mod AnswerMeaning
+pub mod ComposeMeaning
 -- Whole runs
 pub mod Run
 pub mod Stepwise

@@ -103,11 +103,17 @@ abbrev pub joined {ℓ} : {A : Type ℓ} → List (List A) → List A
 joined [] = []
 joined (l ∷ ls) = l ++ joined ls
 
+-- cards, registers, tasks, N
+unfoldable pub sizeBytes : ℕ → ℕ → ℕ → ℕ → List ℕ
+sizeBytes cards registers tasks n = cards ∷ registers ∷ tasks ∷ twoBytes n
+
+-- homes, copies, primaries
+unfoldable pub placementBytes : List ℕ → List ℕ → List ℕ → List ℕ
+placementBytes homes copies primaries = homes ++ copies ++ primaries
+
 unfoldable pub fileBytes : RunFile → List ℕ
 fileBytes f =
-    (f .placement .cards ∷ registers (f .placement) ∷ tasks (f .placement) ∷ twoBytes (length (f .steps)))
-    ++ f .placement .homes
-    ++ f .placement .copies
-    ++ f .placement .primaries
+    sizeBytes (f .placement .cards) (registers (f .placement)) (tasks (f .placement)) (length (f .steps))
+    ++ placementBytes (f .placement .homes) (f .placement .copies) (f .placement .primaries)
     ++ map (λ s. s .code) (f .steps)
     ++ joined (map (λ s. s .argument) (f .steps))

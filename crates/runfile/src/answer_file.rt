@@ -2,7 +2,8 @@
 ghost use mathlib.Core.Path.{_≡_};
 ghost use Prim.Native.Nat.{_+_, _*_, _≤_, _<_};
 ghost use lib.ListN.{length};
-ghost use Rattle.runfile.specs.AnswerFile.{wordStored, headed, putAnswer, resultsPut, valuesFilled, writeRefusal, written};
+ghost use Rattle.runfile.specs.AnswerFile.{wordStored, headed, putAnswer, valuesFilled, writeRefusal, written};
+use super::table::put_table;
 use names::Answer;
 
 // The value of step k into the array of values, which starts with the part.
@@ -38,19 +39,6 @@ pub(crate) fn put_answer(out: &mut [u8], n: usize, k: usize, answer: Answer)
     fill_value(&mut out[start..], k, value);
 }
 
-// The results of all steps, from byte 2 on.
-fn put_results(out: &mut [u8], results: &[u8])
-    requires { ⌜ (length (now results) ≤ 4096) × (2 + length (now results) ≤ length (now out)) ⌝ }
-    ensures { λ _. ⌜ now (out .exit) ≡ resultsPut (now (results .entry)) (now (out .entry)) ⌝ }
-{
-    let n = results.len();
-    let mut k: usize = 0;
-    while k < n {
-        out[2 + k] = results[k];
-        k += 1;
-    }
-}
-
 // The values of all steps into the array of values, which starts with the part.
 fn fill_values(part: &mut [u8], values: &[u32])
     requires { ⌜ (length (now values) ≤ 4096) × (4 * length (now values) ≤ length (now part)) ⌝ }
@@ -81,7 +69,7 @@ pub fn write(out: &mut [u8], results: &[u8], values: &[u32]) -> u8
         return 5;
     }
     put_count(out, results.len());
-    put_results(out, results);
+    put_table(out, 2, results);
     let start = 2 + results.len();
     fill_values(&mut out[start..], values);
     0

@@ -11,8 +11,11 @@ use names::Task;
 use names::wide;
 
 pub mod answer_file;
+mod composer;
 mod run;
+mod table;
 
+pub use composer::compose;
 pub use run::answer;
 pub use run::reply;
 pub use run::start;
@@ -30,6 +33,12 @@ pub struct Answered {
     pub refusal: u8,
     pub taken: u32,
     pub refused: u32,
+}
+
+// What is said of tables: 0 and the length of their run file, or the refusal of the tables or of the output, and 0.
+pub struct Composed {
+    pub refusal: u8,
+    pub length: u32,
 }
 
 // What the reader says of a file: accepted, with its sizes, or refused with its number.

@@ -8,8 +8,6 @@ mod placement;
 
 use console::put;
 use console::tell;
-use console::tell_one;
-use console::word;
 use names::placement::byte;
 use names::wide;
 
@@ -21,20 +19,9 @@ pub(crate) fn number(bytes: &[u8], at: usize) -> u32
         + 256 * (byte(bytes, at + 1) + 256 * (byte(bytes, at + 2) + 256 * byte(bytes, at + 3)))
 }
 
-// Why a file is refused (RULES 8.2). The output is long enough for every answer, so 5 never comes.
-fn why(page: &mut [u8; 65536], at: usize, number: u32) -> usize {
-    word(
-        page,
-        at,
-        b";too short for its sizes;too long;a size out of range;no copy, a copy or home on an absent card, or a primary without a copy",
-        number,
-    )
-}
-
 fn refused_file(page: &mut [u8; 65536], at: usize, number: u32) -> usize {
-    let a = tell_one(page, at, b"refused #: ", number);
-    let b = why(page, a, number);
-    put(page, b, b'\n')
+    let next = console::refused_file(page, at, number);
+    put(page, next, b'\n')
 }
 
 // Step k of n.

@@ -42,8 +42,8 @@
 //! # Ok::<(), Refusal>(())
 //! ```
 //!
-//! A whole run file is answered by [`answer`]. A refusal prints as a phrase; [`sentence()`] says it
-//! with the place of its step.
+//! A whole run file is answered by [`answer`], and written from a placement and [`Steps`] by
+//! [`write()`]. A refusal prints as a phrase; [`sentence()`] says it with the place of its step.
 //!
 //! # Memory
 //!
@@ -51,7 +51,8 @@
 //! a clone is a store of its own that goes on from the same state. [`Store::start`] gives one
 //! by value, which may pass over the stack; where the stack is small, put
 //! [`Store::unstarted`] in a `static` or on the heap and [`restart`](Store::restart) it there.
-//! [`answer`] has a store on the stack while it runs. Nothing here allocates.
+//! [`answer`] has a store on the stack while it runs. [`Steps`] for the longest run file take
+//! 36 KiB; they may be in a `static` too. Nothing here allocates.
 //!
 //! # Threads
 //!
@@ -71,7 +72,7 @@
 //! `GONDZSELU_LIB_DIR` names, or else what `rt staticlib firmware` wrote in the repository
 //! (`target/staticlib/libfirmware.a`, the same library under the name that it is built by). Its
 //! version and the sizes of its memories are checked whenever a store is started, a file
-//! answered or a sentence asked for ([`check_library`]).
+//! answered or written, or a sentence asked for ([`check_library`]).
 
 #![no_std]
 #![deny(missing_docs, unsafe_code)]
@@ -86,6 +87,7 @@ mod run;
 mod sentence;
 mod step;
 mod store;
+mod write;
 
 pub use condition::Condition;
 pub use library::{check_library, version, OtherLibrary, VERSION};
@@ -95,6 +97,7 @@ pub use run::{answer, answer_counted, Tally};
 pub use sentence::{sentence, sentence_bytes, Sentence};
 pub use step::{Function, Step};
 pub use store::{Placement, Store};
+pub use write::{write, write_bytes, Steps};
 
 /// The examples of the README are run with the tests.
 #[cfg(doctest)]

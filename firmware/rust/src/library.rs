@@ -21,7 +21,7 @@ const fn number(digits: &str) -> u32 {
     number
 }
 
-/// The version of the library that is linked, in the form of [`VERSION`]: 5000 is 0.5.0.
+/// The version of the library that is linked, in the form of [`VERSION`]: 6000 is 0.6.0.
 ///
 /// ```
 /// assert_eq!(gondzselu::version(), gondzselu::VERSION);
@@ -74,8 +74,8 @@ fn dotted(version: u32) -> [u32; 3] {
 /// Checks that the library linked has this crate's version and memories of the same sizes. It
 /// costs three calls that give a number.
 ///
-/// Who starts a store or answers a file need not call this: it is checked there, with a panic
-/// where they differ. A program that would rather stop in its own way calls it first.
+/// Who starts a store, answers or writes a file need not call this: it is checked there, with a
+/// panic where they differ. A program that would rather stop in its own way calls it first.
 ///
 /// ```
 /// assert_eq!(gondzselu::check_library(), Ok(()));

@@ -26,7 +26,7 @@ pub const MAX_REQUESTS: u32 = 65_535;
 /// refused with 34.
 pub const MAX_BEHIND: u32 = 24;
 
-/// The bytes of the longest run file.
+/// The bytes of the longest run file: an output of this length is never too short for one.
 pub const LONGEST_FILE: usize = 5 + MAX_TASKS + 2 * MAX_REGISTERS + 9 * MAX_STEPS;
 
 /// The bytes of the longest answer: an output of this length is never too short.

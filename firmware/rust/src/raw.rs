@@ -68,6 +68,22 @@ extern "C" {
         value: *mut u32,
         tally: *mut Tally,
     ) -> u8;
+    fn gondzselu_write(
+        cards: u32,
+        homes: *const u8,
+        homes_length: usize,
+        copies: *const u8,
+        copies_length: usize,
+        primaries: *const u8,
+        primaries_length: usize,
+        codes: *const u8,
+        codes_length: usize,
+        arguments: *const u8,
+        arguments_length: usize,
+        output: *mut u8,
+        output_length: usize,
+        length: *mut u32,
+    ) -> u8;
     fn gondzselu_sentence(
         step: u32,
         refusal: u8,
@@ -107,6 +123,31 @@ pub fn answer_counted(file: &[u8], output: &mut [u8], tally: &mut Tally) -> u8 {
     let (at, length) = (output.as_mut_ptr(), output.len());
     // SAFETY: two slices with their lengths, and a tally, which has the layout of the library's.
     unsafe { gondzselu_answer_counted(file.as_ptr(), file.len(), at, length, tally) }
+}
+
+/// The refusal and the length.
+pub fn write(p: Placement<'_>, codes: &[u8], arguments: &[u8], output: &mut [u8]) -> (u8, u32) {
+    let mut length = 0;
+    // SAFETY: six slices with their lengths, and a place for the file's length.
+    let result = unsafe {
+        gondzselu_write(
+            p.cards.into(),
+            p.homes.as_ptr(),
+            p.homes.len(),
+            p.copies.as_ptr(),
+            p.copies.len(),
+            p.primaries.as_ptr(),
+            p.primaries.len(),
+            codes.as_ptr(),
+            codes.len(),
+            arguments.as_ptr(),
+            arguments.len(),
+            output.as_mut_ptr(),
+            output.len(),
+            &mut length,
+        )
+    };
+    (result, length)
 }
 
 /// The refusal and the length.

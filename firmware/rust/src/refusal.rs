@@ -19,12 +19,13 @@ pub enum Refusal {
     FileTooShort,
     /// 2: the file has more bytes than its sizes ask for.
     FileTooLong,
-    /// 3: a size is out of range; of a placement, also copies and primaries of unequal length.
+    /// 3: a size is out of range; also copies and primaries, or codes and arguments, of unequal
+    /// length, and a step for [`Steps`](crate::Steps) that are full.
     SizeOutOfRange,
     /// 4: a register has no copy, a copy or a home is on an absent card, or a primary has no
     /// copy.
     Misplaced,
-    /// 5: the output is shorter than the answer or the sentence.
+    /// 5: the output is shorter than the answer, the run file or the sentence.
     OutputTooShort,
     /// 6: the state is ill sized, or the step would make it so. Never from a store that only
     /// this crate has written since its start.

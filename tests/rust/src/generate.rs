@@ -4,6 +4,7 @@
 mod guide;
 mod scenes;
 mod spoil;
+pub mod tables;
 
 use crate::model::files::{RawStep, Run};
 use crate::model::placement::{Place, Placement};

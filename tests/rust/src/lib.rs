@@ -4,11 +4,13 @@
 //! `model` holds the rules, `named` the runs K1 to K13, `steps` the ten steps as bytes, `generate`
 //! makes files from a seed, `statistics` tells what files contain and what they must reach,
 //! `memory` has a state in the words of a store, `by_hand` makes states that no run needs to reach,
-//! `sentence` puts refusals into words, `stored`, `view` and `say` have the files that the tree
-//! keeps (`folder`), `selfcheck` and `consistency` try the model itself, and `library` compares the
-//! store with it.
+//! `sentence` puts refusals into words, `stored`, `view`, `say` and `compose` have the files that
+//! the tree keeps (`folder`), `selfcheck` and `consistency` try the model itself, `library` compares
+//! the store with it, `writing` a writer of run files, and `roundtrip` the programs `view` and
+//! `compose`.
 
 pub mod by_hand;
+pub mod compose;
 pub mod consistency;
 pub mod folder;
 pub mod generate;
@@ -18,6 +20,7 @@ pub mod memory;
 pub mod model;
 pub mod named;
 pub mod random;
+pub mod roundtrip;
 pub mod say;
 pub mod selfcheck;
 pub mod sentence;
@@ -25,3 +28,4 @@ pub mod statistics;
 pub mod steps;
 pub mod stored;
 pub mod view;
+pub mod writing;

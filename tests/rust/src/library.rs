@@ -1,5 +1,6 @@
 //! The proved store, linked as a static library (feature `library`), against the model: whole
-//! files, the same steps one by one, what a panel reads, states made by hand, and sentences.
+//! files, the same steps one by one, what a panel reads, states made by hand, sentences, and run
+//! files from tables.
 
 mod c;
 mod calls;
@@ -7,6 +8,7 @@ pub mod sentences;
 pub mod states;
 mod wild;
 pub mod words;
+pub mod write;
 
 use gondzselu::{Condition, Refusal, Store, Tally};
 
@@ -18,8 +20,8 @@ use crate::named;
 use crate::random::Random;
 use calls::Calls;
 
-/// Version 0.5.0.
-const VERSION: u32 = 5_000;
+/// Version 0.6.0.
+const VERSION: u32 = 6_000;
 
 /// What lies in a lent output before.
 const FILL: u8 = 0xA5;

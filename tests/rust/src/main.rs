@@ -1,8 +1,10 @@
 //! `compare`: the model's answers, generated files and checks, from the command line.
 
+use std::io::Write;
 use std::path::Path;
 use std::process::ExitCode;
 
+use gondzselu_model::compose;
 use gondzselu_model::folder;
 use gondzselu_model::generate::{self, Kind};
 #[cfg(feature = "library")]
@@ -10,33 +12,43 @@ use gondzselu_model::library;
 use gondzselu_model::model::files::{program_output, RawStep, Run};
 use gondzselu_model::named;
 use gondzselu_model::random::Random;
+use gondzselu_model::roundtrip;
 use gondzselu_model::say;
 use gondzselu_model::selfcheck::{check, Checked};
 use gondzselu_model::sentence::{sentence, PHRASES};
 use gondzselu_model::statistics::{self, Statistics};
 use gondzselu_model::stored;
 use gondzselu_model::view;
+#[cfg(feature = "library")]
+use gondzselu_model::writing::Compared;
 
 const USAGE: &str = "compare names                    K1 to K13: name, file and answer in hex
 compare sentences                a sentence for each refusal of a step; with the feature
                                  library, after sentences-library
 compare view FILE                a run file and its answers in words
 compare say FILE                 the refused steps of an answer file in sentences
+compare compose FILE             a run in words as a run file, on standard output
 compare generate SEED COUNT DIR  writes run files and the model's answers
 compare stored DIR               writes the runs that crates/runs keeps, with the model's answers
 compare views DIR                writes the runs that crates/view keeps, with what view prints
 compare says DIR                 writes the inputs that crates/say keeps, with what say prints
+compare composes DIR             writes the texts that crates/compose keeps, with what compose writes
 compare statistics SEED COUNT    what generated files contain
 compare self SEED COUNT          checks the model against itself
+compare roundtrip BIN SEED COUNT runs the programs view and compose of a folder on files and on what
+                                 view prints of them, and compose on spoiled texts
+compare spoiled SEED ITEM COUNT  the spoiled text of one of them
 compare library SEED COUNT       compares the library on files (feature library)
 compare steps SEED COUNT         the same, step by step, with what the memories show
 compare states SEED COUNT        compares it on states made by hand, and on K1 to K13
 compare sentences-library        compares its sentences
+compare write SEED COUNT         compares the run files that it writes from tables
 
 From COUNT 1,000 on, each also fails where the files miss something that they must reach: a
 refusal, a code or function taken, a sum about the top, a kind of message delivered, a value, a
-size at its least or most, a limit; and from 10,000 on, where the states are all of one sort or miss
-a result.";
+size at its least or most, a limit; where the texts miss a message; where the tables miss a refusal,
+a reason for it, a size or a length of the output; and from 10,000 on, where the states are all of
+one sort or miss a result.";
 
 fn main() -> ExitCode {
     let words: Vec<String> = std::env::args().skip(1).collect();
@@ -46,10 +58,14 @@ fn main() -> ExitCode {
         ["sentences"] => sentences(),
         ["view", file] => read(file).map(|file| print!("{}", view::view(&file))),
         ["say", file] => say_file(file),
+        ["compose", file] => compose_file(file),
         ["generate", seed, count, directory] => write(seed, count, Path::new(directory)),
         ["stored", directory] => folder::write(Path::new(directory), &stored::files()),
         ["views", directory] => folder::write(Path::new(directory), &view::cases::files()),
         ["says", directory] => folder::write(Path::new(directory), &say::cases::files()),
+        ["composes", directory] => folder::write(Path::new(directory), &compose::cases::files()),
+        ["roundtrip", programs, seed, count] => roundtrips(Path::new(programs), seed, count),
+        ["spoiled", seed, item, count] => spoiled(seed, item, count),
         ["statistics", seed, count] => each(seed, count, |_, _| Ok(())),
         ["self", seed, count] => self_checks(seed, count),
         #[cfg(feature = "library")]
@@ -62,6 +78,8 @@ fn main() -> ExitCode {
         ["states", seed, count] => states(seed, count),
         #[cfg(feature = "library")]
         ["sentences-library"] => sentences_library(),
+        #[cfg(feature = "library")]
+        ["write", seed, count] => write_library(seed, count),
         _ => Err(format!("what?\n{USAGE}")),
     };
     match result {
@@ -122,6 +140,34 @@ fn say_file(file: &str) -> Result<(), String> {
     let text = say::say(&read(file)?).map_err(|why| format!("say: {why}"))?;
     print!("{text}");
     Ok(())
+}
+
+fn compose_file(file: &str) -> Result<(), String> {
+    let file = compose::compose(&read(file)?).map_err(|why| format!("compose: {why}"))?;
+    print_bytes(&file)
+}
+
+fn print_bytes(bytes: &[u8]) -> Result<(), String> {
+    let written = std::io::stdout().write_all(bytes);
+    written.map_err(|error| format!("standard output: {error}"))
+}
+
+fn spoiled(seed: &str, item: &str, count: &str) -> Result<(), String> {
+    let text = roundtrip::text(number(seed)?, number(item)?, number(count)?);
+    print_bytes(&text)
+}
+
+/// Files and texts by `view` and `compose` of a folder.
+fn roundtrips(programs: &Path, seed: &str, count: &str) -> Result<(), String> {
+    let (seed, count) = (number(seed)?, number(count)?);
+    let run = |name: &str, input: &[u8]| roundtrip::run(programs, name, input);
+    let cases = roundtrip::cases(&run)?;
+    let compared = roundtrip::all(seed, count, &run)?;
+    println!("texts by hand {cases}; {compared}");
+    match count < statistics::FILES {
+        true => Ok(()),
+        false => statistics::none_missing(compared.missing()),
+    }
 }
 
 /// Does something with each file of a seed, prints the statistics, and fails where so many files
@@ -208,4 +254,20 @@ fn sentences_library() -> Result<(), String> {
     let library::sentences::Compared { steps, calls } = library::sentences::compare()?;
     println!("sentences of {steps} steps and 256 refusals, {calls} calls");
     Ok(())
+}
+
+/// Generated tables, on outputs of many lengths.
+#[cfg(feature = "library")]
+fn write_library(seed: &str, count: &str) -> Result<(), String> {
+    let (seed, count) = (number(seed)?, number(count)?);
+    let mut compared = Compared::default();
+    for item in 0..count {
+        library::write::compare(&mut Random::new(seed, item), &mut compared)
+            .map_err(|words| format!("seed {seed} item {item}: {words}"))?;
+    }
+    println!("{compared}");
+    match count < statistics::FILES {
+        true => Ok(()),
+        false => statistics::none_missing(compared.missing()),
+    }
 }

@@ -12,6 +12,7 @@ pub mod placement;
 pub mod sized;
 pub mod step;
 pub mod tally;
+pub mod write;
 
 use channel::{Body, Channel, Message};
 pub use functions::{apply, FUNCTIONS};

@@ -11,7 +11,7 @@ use crate::model::{has, Refusal, State, FUNCTIONS};
 use crate::sentence::PHRASES;
 
 /// By code, from 1.
-const NAMES: [&str; 10] = [
+pub const NAMES: [&str; 10] = [
     "request read",
     "request update",
     "perform",
@@ -25,7 +25,7 @@ const NAMES: [&str; 10] = [
 ];
 
 /// By function, from 1.
-const NAMED_FUNCTIONS: [&str; 5] = [
+pub const NAMED_FUNCTIONS: [&str; 5] = [
     "set",
     "add, stays at the top",
     "larger",
@@ -44,7 +44,8 @@ pub const FILES: [(Refusal, &str); 4] = [
     ),
 ];
 
-fn refused(refusal: Refusal) -> String {
+/// A refusal of a file or of a step, as it is told.
+pub fn refused(refusal: Refusal) -> String {
     let mut phrases = FILES.iter().chain(&PHRASES);
     let phrase = phrases.find(|(number, _)| *number == refusal);
     let (_, phrase) = phrase.expect("a refusal with a phrase");

@@ -9,7 +9,9 @@
 use core::panic::PanicInfo;
 use core::ptr::addr_of_mut;
 
-use gondzselu::{sentence, Condition, Function, Placement, Refusal, Step, Store, Tally};
+use gondzselu::{
+    sentence, write, Condition, Function, Placement, Refusal, Step, Steps, Store, Tally,
+};
 
 #[link(name = "c")]
 extern "C" {
@@ -93,6 +95,14 @@ fn play(store: &mut Store) -> i32 {
     let words = sentence(12, Refusal::InboxEmpty);
     if words.as_deref() != Some("step 12: the card has nothing to deliver") {
         return 6;
+    }
+    let (mut steps, mut file) = (Steps::<16>::new(), [0; 156]);
+    let full = K9.iter().any(|&(step, _)| steps.push(step).is_err());
+    if full || write(PLACEMENT, &steps, &mut file) != Ok(156) {
+        return 7;
+    }
+    if file != *include_bytes!("../../../../examples/k9.run") {
+        return 8;
     }
     0
 }

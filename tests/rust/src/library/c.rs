@@ -3,6 +3,8 @@
 
 use gondzselu::{Store, Tally};
 
+use crate::model::write::Tables;
+
 extern "C" {
     fn gondzselu_version() -> u32;
     fn gondzselu_start(
@@ -30,6 +32,22 @@ extern "C" {
     fn gondzselu_task(registers: *const u32, channel: *const u32, task: u32) -> u32;
     fn gondzselu_task_value(registers: *const u32, channel: *const u32, task: u32) -> u32;
     fn gondzselu_broadcasts_taken(channel: *const u32, card: u32) -> u32;
+    fn gondzselu_write(
+        cards: u32,
+        homes: *const u8,
+        homes_length: usize,
+        copies: *const u8,
+        copies_length: usize,
+        primaries: *const u8,
+        primaries_length: usize,
+        codes: *const u8,
+        codes_length: usize,
+        arguments: *const u8,
+        arguments_length: usize,
+        output: *mut u8,
+        output_length: usize,
+        length: *mut u32,
+    ) -> u8;
 }
 
 /// What lies where a value is written: it is no answer.
@@ -113,4 +131,36 @@ pub fn task(store: &Store, task: u32) -> (u32, u32) {
 
 pub fn broadcasts_taken(store: &Store, card: u32) -> u32 {
     unsafe { gondzselu_broadcasts_taken(read(store).1, card) }
+}
+
+/// The refusal, and the file's length.
+pub fn write(tables: &Tables, output: &mut [u8]) -> (u8, u32) {
+    let Tables {
+        cards,
+        homes,
+        copies,
+        primaries,
+        codes,
+        arguments,
+    } = tables;
+    let mut length = BEFORE;
+    let refusal = unsafe {
+        gondzselu_write(
+            *cards,
+            homes.as_ptr(),
+            homes.len(),
+            copies.as_ptr(),
+            copies.len(),
+            primaries.as_ptr(),
+            primaries.len(),
+            codes.as_ptr(),
+            codes.len(),
+            arguments.as_ptr(),
+            arguments.len(),
+            output.as_mut_ptr(),
+            output.len(),
+            &mut length,
+        )
+    };
+    (refusal, length)
 }

@@ -4,9 +4,10 @@ use mathlib.Core.List.{_++_, append-nil}
 use native.Mathlib.Omega.{arith}
 use borrow.Author.Tests.{le-ltb, eq-eqb}
 use lib.ListN.{length, take, drop}
+use lib.Seq.{sets}
 use Rattle.lists.specs.Parts.{tail-part, tail-rest}
 use Rattle.lists.specs.Tests.{cases}
-use Rattle.runfile.specs.AnswerFile.{headed, resultsPut, valuesFilled, writeRefusal, written}
+use Rattle.runfile.specs.AnswerFile.{headed, valuesFilled, writeRefusal, written}
 use Rattle.runfile.proofs.WriteLaws.{writes-answered}
 use borrow.Author.Needs.{needs}
 use Rattle.runfile.proofs.answer_file.write.Statement.{statement}
@@ -33,8 +34,8 @@ returns-3 c = search (needs, cases)
 put-count-requires : tie.Need-put-count-requires
 put-count-requires c κs = search needs
 
-put-results-requires : tie.Need-put-results-requires
-put-results-requires c κs = search needs
+put-table-requires : tie.Need-put-table-requires
+put-table-requires c κs = search needs
 
 add-start : tie.Need-add-start
 add-start c = search needs
@@ -66,8 +67,8 @@ returns-4 c =
     let r = args .results .now in
     let v = args .values .now in
     let n = length r in
-    let ys = res .put-results .last .0 in
-    let y : ys ≡ resultsPut r (headed n (args .out .now)) = res .put-results .ensures ∙ ap (resultsPut r) (count .put-count .ensures) in
+    let ys = res .put-table .last .0 in
+    let y : ys ≡ sets (headed n (args .out .now)) 2 r = res .put-table .ensures .1 ∙ ap (λ o. sets o 2 r) (count .put-count .ensures) in
     let e : fill .fill-values .last .0 ≡ valuesFilled v (drop (2 + n) ys) = rw (← tail-part (2 + n) ys) (fill .fill-values .ensures) in
     let few = le-ltb _ _ (room .before .before .if1 .left) in
     let even = eq-eqb _ _ (room .before .if2 .left) in
@@ -87,7 +88,7 @@ write-spec =
     add-if3
     returns-3
     put-count-requires
-    put-results-requires
+    put-table-requires
     add-start
     sub-fill-values
     part-fill-values-start

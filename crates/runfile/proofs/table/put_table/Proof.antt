@@ -5,15 +5,14 @@ use lib.ListN.{length, getD, set, take, length-set}
 use lib.Seq.{sets, take-length}
 use Rattle.lists.specs.Parts.{sets-more}
 use borrow.Author.Needs.{needs}
-use Rattle.runfile.specs.AnswerFile.{resultsPut}
-use Rattle.runfile.proofs.answer_file.put_results.Statement.{statement}
-use Rattle.runfile.proofs.answer_file.put_results.Tie as tie
+use Rattle.runfile.proofs.table.put_table.Statement.{statement}
+use Rattle.runfile.proofs.table.put_table.Tie as tie
 
 abbrev Inv-loop : tie.InvT-loop
-Inv-loop out₀ results n k₀ out k = (k ≤ n) × (length out ≡ length out₀) × (out ≡ sets out₀ 2 (take k results))
+Inv-loop out₀ at table n k₀ out k = (k ≤ n) × (length out ≡ length out₀) × (out ≡ sets out₀ at (take k table))
 
 abbrev μ-loop : tie.MeasureT-loop
-μ-loop out₀ results n k₀ out k = n - k
+μ-loop out₀ at table n k₀ out k = n - k
 
 loop-holds : tie.Need-loop-holds Inv-loop μ-loop
 loop-holds c = (search needs, refl, refl)
@@ -35,22 +34,26 @@ loop-less c = search needs
 
 loop-again : tie.Need-loop-again Inv-loop μ-loop
 loop-again c = let l = c .before .before .loop in
-    let r = c .before .before .before .args .results .now in
-    (search needs, simp length-set (l .inv .1), ap (λ o. set o (2 + l .k) (getD r (l .k) 0)) (l .inv .2) ∙ sym (sets-more (c .before .before .before .args .out .now) 2 r (l .k) 0 (omega arith)))
+    let args = c .before .before .before .args in
+    let r = args .table .now in
+    (search needs, simp length-set (l .inv .1), ap (λ o. set o (args .at + l .k) (getD r (l .k) 0)) (l .inv .2) ∙ sym (sets-more (args .out .now) (args .at) r (l .k) 0 (omega arith)))
+
+add-result : tie.Need-add-result Inv-loop μ-loop
+add-result c = search needs
 
 same-length : tie.Need-same-length Inv-loop μ-loop
 same-length c = c .before .loop .inv .1
 
 returns : tie.Need-returns Inv-loop μ-loop
-unfolding resultsPut
 returns c = let l = c .before .loop in
-    let r = c .before .before .args .results .now in
-    let o = c .before .before .args .out .now in
+    let args = c .before .before .args in
+    let r = args .table .now in
+    let o = args .out .now in
     let e : l .k ≡ length r = omega arith in
-    l .inv .2 ∙ ap (λ m. sets o 2 (take m r)) e ∙ ap (sets o 2) (take-length r)
+    (refl, l .inv .2 ∙ ap (λ m. sets o (args .at) (take m r)) e ∙ ap (sets o (args .at)) (take-length r))
 
-pub put-results-spec : {M : Type 1} → statement M
-put-results-spec =
+pub put-table-spec : {M : Type 1} → statement M
+put-table-spec =
     tie.close
     (tie.spec
     Inv-loop
@@ -62,5 +65,6 @@ put-results-spec =
     add-k
     loop-less
     loop-again
+    add-result
     same-length
     returns)

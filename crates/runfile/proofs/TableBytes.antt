@@ -1,0 +1,73 @@
+-- The bytes of a run file in terms of its tables.
+use Prim.Native.Nat.{ℕ, _+_, _*_}
+use mathlib.Core.Path.{_≡_, sym, ap, ap₂, _∙_}
+use mathlib.Core.List.{List, _++_, map}
+use native.Mathlib.Omega.{arith}
+use lib.ListN.{length, getD, length-append}
+use lib.Seq.{sets}
+use Rattle.lists.specs.Parts.{sets-append}
+use Rattle.lists.specs.Listings.{listing, listing-all, listing-length, map-listing}
+use Rattle.names.specs.Placement.{tasks, registers}
+use Rattle.runfile.specs.RunFile.{joined, sizeBytes, placementBytes, fileBytes}
+use Rattle.runfile.specs.Compose.{Tables, stepOf, runFileOf, composed}
+use Rattle.runfile.proofs.Joined.{joined-pieces}
+
+pub placement-length : (homes copies primaries : List ℕ) → length (placementBytes homes copies primaries) ≡ length homes + length copies + length primaries
+unfolding placementBytes
+placement-length homes copies primaries = simp length-append (omega arith)
+
+pub size-length : (cards registers tasks n : ℕ) → length (sizeBytes cards registers tasks n) ≡ 5
+unfolding sizeBytes
+size-length cards registers tasks n = omega arith
+
+pub three-in-turn : (out a b c : List ℕ) (i j k : ℕ) → j ≡ i + length a → k ≡ j + length b → sets (sets (sets out i a) j b) k c ≡ sets out i (a ++ b ++ c)
+three-in-turn out a b c i j k e f =
+    let l = length-append a b in
+    let last : k ≡ i + length (a ++ b) = omega arith in
+    sym (sets-append out i (a ++ b) c ∙ ap₂ (λ o m. sets o m c) (sets-append out i a b ∙ ap (λ m. sets (sets out i a) m b) (sym e)) (sym last))
+
+module _ (t : Tables) where
+  abbrev n : ℕ
+  n = length (t .codes)
+
+  abbrev pub sizesOf : List ℕ
+  sizesOf = sizeBytes (t .placement .cards) (registers (t .placement)) (tasks (t .placement)) n
+
+  abbrev pub placementOf : List ℕ
+  placementOf = placementBytes (t .placement .homes) (t .placement .copies) (t .placement .primaries)
+
+  module _ (even : length (t .arguments) ≡ 8 * n) where
+    codes-are : map (λ s. s .code) (runFileOf t .steps) ≡ t .codes
+    codes-are = map-listing (λ s. s .code) (stepOf t) n ∙ listing-all (t .codes) 0
+
+    arguments-are : joined (map (λ s. s .argument) (runFileOf t .steps)) ≡ t .arguments
+    arguments-are =
+        ap joined (map-listing (λ s. s .argument) (stepOf t) n)
+        ∙ joined-pieces (λ i. getD (t .arguments) i 0) 8 n
+        ∙ ap (listing (λ i. getD (t .arguments) i 0)) (sym even)
+        ∙ listing-all (t .arguments) 0
+
+    pub composed-is : composed t ≡ sizesOf ++ placementOf ++ t .codes ++ t .arguments
+    unfolding composed fileBytes
+    composed-is =
+        ap₂ (λ a b. sizeBytes (t .placement .cards) (registers (t .placement)) (tasks (t .placement)) (length (runFileOf t .steps)) ++ placementOf ++ a ++ b) codes-are arguments-are
+        ∙ ap (λ m. sizeBytes (t .placement .cards) (registers (t .placement)) (tasks (t .placement)) m ++ placementOf ++ t .codes ++ t .arguments) (listing-length (stepOf t) n)
+
+    pub bytes-length : length (composed t) ≡ 5 + length placementOf + 9 * n
+    bytes-length =
+        let s = size-length (t .placement .cards) (registers (t .placement)) (tasks (t .placement)) n in
+        let a = length-append sizesOf placementOf in
+        let b = length-append (sizesOf ++ placementOf) (t .codes) in
+        let c = length-append (sizesOf ++ placementOf ++ t .codes) (t .arguments) in
+        ap length composed-is ∙ omega arith
+
+    -- sizes, placement, codes and arguments stored where the one before ends
+    pub four-in-turn : (out : List ℕ) (i j : ℕ) → i ≡ 5 + length placementOf → j ≡ i + n → sets (sets (sets (sets out 0 sizesOf) 5 placementOf) i (t .codes)) j (t .arguments) ≡ sets out 0 (composed t)
+    four-in-turn out i j e f =
+        let s = size-length (t .placement .cards) (registers (t .placement)) (tasks (t .placement)) n in
+        let a = length-append sizesOf placementOf in
+        let five : 5 ≡ 0 + length sizesOf = omega arith in
+        let codes : i ≡ 0 + length (sizesOf ++ placementOf) = omega arith in
+        ap (λ o. sets (sets o i (t .codes)) j (t .arguments)) (ap (λ k. sets (sets out 0 sizesOf) k placementOf) five ∙ sym (sets-append out 0 sizesOf placementOf))
+        ∙ three-in-turn out (sizesOf ++ placementOf) (t .codes) (t .arguments) 0 i j codes f
+        ∙ ap (sets out 0) (sym composed-is)
