@@ -12,7 +12,7 @@ use Rattle.lists.specs.Tests.{clash, false-of, and-fst, and-snd}
 use Rattle.lists.specs.Conjunctions.{and-three, and-five, and-fails}
 use Rattle.lists.specs.Every.{each, each-failing}
 use Rattle.names.specs.declared.Body.{Body}
-use Rattle.names.specs.declared.Body.the-variants.{ReadDo, UpdateDo, ReadReply, UpdateReply}
+use Rattle.names.specs.declared.Body.the-variants.{ReadDo, ReadReply, UpdateDo, UpdateReply}
 use Rattle.names.specs.declared.Letter.{Letter}
 use Rattle.names.specs.CardSet.{several, single}
 use Rattle.names.specs.Letters.{letterAt, kindAt, tagAt, known}
@@ -47,12 +47,12 @@ module _ (cs : List ℕ) (l : Letter) where
   body-fails : (b : Body) → l .message .body ≡ b → known b ≡ false → PastLimit cs l
   unfolding known
   body-fails ReadDo q e = absurd (clash refl e)
+  body-fails (ReadReply v) q e = absurd (clash refl e)
   body-fails (UpdateDo f v) q e = go (functions-unknown f .0 e)
     where
       go : (f ≡ 0) ⊎ (5 < f) → PastLimit cs l
       go (inl z) = no-function v (rw z at q)
       go (inr h) = unknown-function f v q h
-  body-fails (ReadReply v) q e = absurd (clash refl e)
   body-fails UpdateReply q e = absurd (clash refl e)
 
   fits-fails : fits cs l ≡ false → PastLimit cs l

@@ -12,7 +12,7 @@ use lib.ListN.{getD}
 use Rattle.lists.specs.Tests.{and-fst, and-snd, and-intro}
 use Rattle.lists.specs.Conjunctions.{and-four}
 use Rattle.names.specs.declared.Body.{Body}
-use Rattle.names.specs.declared.Body.the-variants.{ReadDo, UpdateDo, ReadReply, UpdateReply}
+use Rattle.names.specs.declared.Body.the-variants.{ReadDo, ReadReply, UpdateDo, UpdateReply}
 use Rattle.names.specs.declared.Letter.{Letter}
 use Rattle.names.specs.declared.Packet.{Packet}
 use Rattle.names.specs.Update.{knownFunction}
@@ -52,8 +52,8 @@ fits-of ws l f =
 function-small : (y : Body) → known y ≡ true → functionOf y < 8
 unfolding known functionOf knownFunction
 function-small ReadDo e = omega arith
-function-small (UpdateDo f v) e = let m = leb-true f 5 (and-snd (leb 1 f) (leb f 5) e) in omega arith
 function-small (ReadReply v) e = omega arith
+function-small (UpdateDo f v) e = let m = leb-true f 5 (and-snd (leb 1 f) (leb f 5) e) in omega arith
 function-small UpdateReply e = omega arith
 
 module _ (ws : List ℕ) (l : Letter) (f : fits ws l ≡ true) where

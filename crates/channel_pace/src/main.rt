@@ -27,8 +27,8 @@ fn packet(value: u32, to: u32) -> Packet {
 fn operand(body: Body) -> u32 {
     match body {
         Body::ReadDo => 0,
-        Body::UpdateDo(_, v) => v,
         Body::ReadReply(v) => v,
+        Body::UpdateDo(_, v) => v,
         Body::UpdateReply => 0,
     }
 }

@@ -51,8 +51,8 @@ module _ (P : Placement) where
 
     on-receive : (i : ℕ) (m : Letter) (b : Body) → receiving P s i m b .requests ≡ s .requests
     on-receive i m ReadDo = refl
-    on-receive i m (UpdateDo f w) = refl
     on-receive i m (ReadReply v) = refl
+    on-receive i m (UpdateDo f w) = refl
     on-receive i m UpdateReply = refl
 
     on-deliver : (i : ℕ) (l : List Letter) → delivering P s i l .requests ≡ s .requests

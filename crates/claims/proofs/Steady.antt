@@ -121,6 +121,7 @@ module _ (P : Placement) where
 
     on-receive : (i : ℕ) (m : Letter) (b : Body) → Steady (receiving P s i m b)
     on-receive i m ReadDo = with-channel (left i) (post i (replyTo P m (ReadReply (s .table i (m .reg)))) (s .out)) (gone i)
+    on-receive i m (ReadReply v) = told i (m .task) (doneRead v) (s .table) (s .out) (omega arith)
     on-receive i m (UpdateDo f v) = go (eqb i (home P (m .task)))
       where
         go : (t : Bool) → Steady (record {
@@ -132,7 +133,6 @@ module _ (P : Placement) where
         })
         go true = record { modest = gone i; asks = asks-set (m .task) doneUpdate (s .status) (omega arith) (a .asks); count = a .count }
         go false = record { modest = gone i; asks = a .asks; count = a .count }
-    on-receive i m (ReadReply v) = told i (m .task) (doneRead v) (s .table) (s .out) (omega arith)
     on-receive i m UpdateReply = told i (m .task) doneUpdate (s .table) (s .out) (omega arith)
 
     on-deliver : (i : ℕ) (l : List Letter) → Steady (delivering P s i l)

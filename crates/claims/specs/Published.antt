@@ -7,7 +7,7 @@ use mathlib.Core.List.{List, [], _∷_}
 use lib.Dec.{eqb}
 use Rattle.lists.specs.Queues.{push, pop}
 use Rattle.names.specs.declared.Body.{Body}
-use Rattle.names.specs.declared.Body.the-variants.{ReadDo, UpdateDo, ReadReply, UpdateReply}
+use Rattle.names.specs.declared.Body.the-variants.{ReadDo, ReadReply, UpdateDo, UpdateReply}
 use Rattle.names.specs.CardSet.{memberOf, several, soleOf, justOf}
 use Rattle.names.specs.Update.{updated}
 use Rattle.names.specs.Placement.{Placement, home, holders, primary, copy}
@@ -138,13 +138,13 @@ module _ (P : Placement) where
   -- ---- steps 7 and 8 (Figure 7: receive from BC, receive from PP) are the channel's alone
 
   -- ---- step 9 (Figure 7: receive, with Figure 5's receive of the same message): the head leaves the inbox of card i, then what its body
-  -- says. The sender j of the figure is the home of the message's task.
+  -- says: the four fragments in the figure's order. The sender j of a do message is the home of its task; who sent a reply makes no difference.
 
   -- Figure 5: whether a reply is added to buffer: of read-do always; of update-do "if j ∉ sites(x) and i = primary(x)"
   abbrev pub replies : Letter → ℕ → Body → Bool
   replies m i ReadDo = true
-  replies m i (UpdateDo f w) = eqb i (primary P (m .reg)) && not (copy P (m .reg) (home P (m .task)))
   replies m i (ReadReply v) = false
+  replies m i (UpdateDo f w) = eqb i (primary P (m .reg)) && not (copy P (m .reg) (home P (m .task)))
   replies m i UpdateReply = false
 
   abbrev pub answered : Letter → ℕ → Bool
@@ -155,6 +155,7 @@ module _ (P : Placement) where
   replyTo m b = record { task = m .task; reg = m .reg; body = b; to = justOf (home P (m .task)) }
 
   abbrev pub receiving : Published → ℕ → Letter → Body → Published
+  -- receive((read-do, c, ξ, x), j)_i
   receiving s i m ReadDo = record {
     requests = s .requests;
     status = s .status;
@@ -162,13 +163,7 @@ module _ (P : Placement) where
     out = post i (replyTo m (ReadReply (s .table i (m .reg)))) (s .out);
     channel = channelStep mail (s .channel) (C.deliver i);
   }
-  receiving s i m (UpdateDo f w) = record {
-    requests = s .requests;
-    status = cond (eqb i (home P (m .task))) (setStatus (m .task) doneUpdate (s .status)) (s .status);
-    table = setCopy i (m .reg) (updated f w (s .table i (m .reg))) (s .table);
-    out = cond (eqb i (primary P (m .reg)) && not (copy P (m .reg) (home P (m .task)))) (post i (replyTo m UpdateReply) (s .out)) (s .out);
-    channel = channelStep mail (s .channel) (C.deliver i);
-  }
+  -- receive((read-reply, c, ξ, x, v), j)_i
   receiving s i m (ReadReply v) = record {
     requests = s .requests;
     status = setStatus (m .task) (doneRead v) (s .status);
@@ -176,6 +171,15 @@ module _ (P : Placement) where
     out = s .out;
     channel = channelStep mail (s .channel) (C.deliver i);
   }
+  -- receive((update-do, c, ξ, x, f), j)_i
+  receiving s i m (UpdateDo f w) = record {
+    requests = s .requests;
+    status = cond (eqb i (home P (m .task))) (setStatus (m .task) doneUpdate (s .status)) (s .status);
+    table = setCopy i (m .reg) (updated f w (s .table i (m .reg))) (s .table);
+    out = cond (eqb i (primary P (m .reg)) && not (copy P (m .reg) (home P (m .task)))) (post i (replyTo m UpdateReply) (s .out)) (s .out);
+    channel = channelStep mail (s .channel) (C.deliver i);
+  }
+  -- receive((update-reply, c, ξ, x), j)_i
   receiving s i m UpdateReply = record {
     requests = s .requests;
     status = setStatus (m .task) doneUpdate (s .status);

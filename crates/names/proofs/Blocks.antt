@@ -12,7 +12,7 @@ use lib.Seq.{getD-set-same, getD-set-other}
 use Rattle.names.specs.declared.Letter.{Letter}
 use Rattle.names.specs.declared.Packet.{Packet}
 use Rattle.names.specs.declared.Body.{Body}
-use Rattle.names.specs.declared.Body.the-variants.{ReadDo, UpdateDo, ReadReply, UpdateReply}
+use Rattle.names.specs.declared.Body.the-variants.{ReadDo, ReadReply, UpdateDo, UpdateReply}
 use Rattle.names.specs.Letters.{kindIn, taskIn, registerIn, functionIn, toIn, wordOf, letterOf, packetOf, Packs, packetAt, letterAt, tagAt, stored, marked, bodyOf, kindOf, functionOf, valueOf}
 
 -- ---- a letter in a packet
@@ -20,16 +20,16 @@ use Rattle.names.specs.Letters.{kindIn, taskIn, registerIn, functionIn, 
 pub body-back : (y : Body) → bodyOf (kindOf y) (functionOf y) (valueOf y) ≡ y
 unfolding bodyOf kindOf functionOf valueOf
 body-back ReadDo = refl
-body-back (UpdateDo f v) = refl
 body-back (ReadReply v) = refl
+body-back (UpdateDo f v) = refl
 body-back UpdateReply = refl
 
 -- a body is of one of the four kinds
 pub kind-some : (y : Body) → (1 ≤ kindOf y) × (kindOf y ≤ 4)
 unfolding kindOf
 kind-some ReadDo = (omega arith, omega arith)
-kind-some (UpdateDo f v) = (omega arith, omega arith)
 kind-some (ReadReply v) = (omega arith, omega arith)
+kind-some (UpdateDo f v) = (omega arith, omega arith)
 kind-some UpdateReply = (omega arith, omega arith)
 
 -- what a body has of the kind, function and value that it is read from

@@ -1,13 +1,14 @@
 -- A letter, that is a message (RULES 1.7) with its destinations, as it lies in memory (RULES 11.12): a packet of two words. The first has, from
--- its lowest digit on, the kind, the task, the register, the function and the destinations; the second has the operand or value. Kinds 1 to 4:
--- the four messages; kind 0: none. A message held or in flight has a third word, its tag. All that is said of a letter in memory goes by this page.
+-- its lowest digit on, the kind, the task, the register, the function and the destinations; the second has the operand or value. Kinds (RULES
+-- 11.13): 1 read, 2 update, 3 reply to a read, 4 reply to an update; 0 none. Clauses over a body go by 000 Figure 5's order instead. A message
+-- held or in flight has a third word, its tag. All that is said of a letter in memory goes by this page.
 use Prim.Native.Nat.{ℕ, zero, suc, _+_, _*_, _/_, _%_, _<_}
 use mathlib.Core.Bool.{Bool, true, false, cond, not, _||_}
 use mathlib.Core.List.{List}
 use lib.Dec.{eqb, ltb}
 use lib.ListN.{getD, set}
 use Rattle.names.specs.declared.Body.{Body}
-use Rattle.names.specs.declared.Body.the-variants.{ReadDo, UpdateDo, ReadReply, UpdateReply}
+use Rattle.names.specs.declared.Body.the-variants.{ReadDo, ReadReply, UpdateDo, UpdateReply}
 use Rattle.names.specs.declared.Letter.{Letter}
 use Rattle.names.specs.declared.Packet.{Packet}
 use Rattle.names.specs.Update.{knownFunction}
@@ -17,20 +18,20 @@ bodyOf k f v = cond (eqb k 1) ReadDo (cond (eqb k 2) (UpdateDo f v) (cond (eqb k
 
 unfoldable pub kindOf : Body → ℕ
 kindOf ReadDo = 1
-kindOf (UpdateDo f v) = 2
 kindOf (ReadReply v) = 3
+kindOf (UpdateDo f v) = 2
 kindOf UpdateReply = 4
 
 unfoldable pub functionOf : Body → ℕ
 functionOf ReadDo = 0
-functionOf (UpdateDo f v) = f
 functionOf (ReadReply v) = 0
+functionOf (UpdateDo f v) = f
 functionOf UpdateReply = 0
 
 unfoldable pub valueOf : Body → ℕ
 valueOf ReadDo = 0
-valueOf (UpdateDo f v) = v
 valueOf (ReadReply v) = v
+valueOf (UpdateDo f v) = v
 valueOf UpdateReply = 0
 
 -- ---- the fields of a first word; the destinations are all that is left of it, so no part of a word is out of sight
@@ -109,6 +110,6 @@ functionFits kind f = not (eqb kind 2) || knownFunction f
 -- an update has one of the known functions
 unfoldable pub known : Body → Bool
 known ReadDo = true
-known (UpdateDo f v) = knownFunction f
 known (ReadReply v) = true
+known (UpdateDo f v) = knownFunction f
 known UpdateReply = true

@@ -28,14 +28,14 @@ pub fn body_of(kind: u32, function: u32, value: u32) -> Body
     Body::UpdateReply
 }
 
-// The kind of a body, 1 to 4.
+// The kind of a body in memory, 1 to 4 (RULES 11.13).
 pub fn kind_of(body: Body) -> u32
     ensures { λ r. ⌜ r ≡ kindOf body ⌝ }
 {
     match body {
         Body::ReadDo => 1,
-        Body::UpdateDo(_, _) => 2,
         Body::ReadReply(_) => 3,
+        Body::UpdateDo(_, _) => 2,
         Body::UpdateReply => 4,
     }
 }
@@ -46,8 +46,8 @@ pub fn function_of(body: Body) -> u32
 {
     match body {
         Body::ReadDo => 0,
-        Body::UpdateDo(f, _) => f,
         Body::ReadReply(_) => 0,
+        Body::UpdateDo(f, _) => f,
         Body::UpdateReply => 0,
     }
 }
@@ -58,8 +58,8 @@ pub fn value_of(body: Body) -> u32
 {
     match body {
         Body::ReadDo => 0,
-        Body::UpdateDo(_, v) => v,
         Body::ReadReply(v) => v,
+        Body::UpdateDo(_, v) => v,
         Body::UpdateReply => 0,
     }
 }

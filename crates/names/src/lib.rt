@@ -21,15 +21,16 @@ pub struct Register(pub u32);
 // The number of a broadcast, from 1; as a tag, the number of broadcasts that the sender had taken.
 pub struct BroadcastNumber(pub u32);
 
-// What a message asks or answers (000 §5.1).
+// What a message asks or answers (000 §5.1), in the order in which Figure 5 receives it. In memory it is known by its kind (letters), and the
+// kinds are numbered in another order.
 pub enum Body {
-    // read-do
+    // receive((read-do, c, ξ, x), j)_i
     ReadDo,
-    // update-do: function and operand
-    UpdateDo(u32, u32),
-    // read-reply: the value
+    // receive((read-reply, c, ξ, x, v), j)_i: the value
     ReadReply(u32),
-    // update-reply
+    // receive((update-do, c, ξ, x, f), j)_i: function and operand
+    UpdateDo(u32, u32),
+    // receive((update-reply, c, ξ, x), j)_i
     UpdateReply,
 }
 

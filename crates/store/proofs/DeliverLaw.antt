@@ -11,7 +11,7 @@ use lib.ListN.{length}
 use Rattle.names.specs.declared.Card.{Card}
 use Rattle.names.specs.declared.Letter.{Letter}
 use Rattle.names.specs.declared.Body.{Body}
-use Rattle.names.specs.declared.Body.the-variants.{ReadDo, UpdateDo, ReadReply, UpdateReply}
+use Rattle.names.specs.declared.Body.the-variants.{ReadDo, ReadReply, UpdateDo, UpdateReply}
 use Rattle.names.specs.CardSet.{justOf}
 use Rattle.names.specs.Letters.{known}
 use Rattle.names.specs.Update.{updated}
@@ -62,8 +62,8 @@ module _ (rs cs : List ℕ) (P : Placement) (s : Published) (z : Ready rs cs P s
     body-number : (b : Body) → bodyNumber rs i (m .task) (m .reg) b ≡ cond (replies P m i b) (outboxRoom (s .out i)) 0
     unfolding bodyNumber
     body-number ReadDo = sym room
-    body-number (UpdateDo f w) = rw (here-is, room)
     body-number (ReadReply v) = refl
+    body-number (UpdateDo f w) = rw (here-is, room)
     body-number UpdateReply = refl
 
     -- a reply joins the outbox, on memories with the same outboxes as now
@@ -114,6 +114,7 @@ module _ (rs cs : List ℕ) (P : Placement) (s : Published) (z : Ready rs cs P s
         let r = roomed (roomy rs i) n in
         rw (r, z .show .table= i (m .reg) card register)
         (reply-ready rs s z refl r (ReadReply (copyOf rs i (m .reg))) refl)
+    body-ready (ReadReply v) n = doing-ready rs cs P s z (m .task) task (DoneRead v) refl
     body-ready (UpdateDo f w) n = rw here-is (go (repliesHere rs i (m .task) (m .reg)) n)
       where
         go : (b : Bool) → _≡_ {A = ℕ} (cond b (cond (roomy rs i) 0 6) 0) 0
@@ -129,7 +130,6 @@ module _ (rs cs : List ℕ) (P : Placement) (s : Published) (z : Ready rs cs P s
             let r = roomed (roomy rs i) q in
             rw r (reply-ready (applied rs i (m .task) (m .reg) f w) _ (applied-ready f w) refl r UpdateReply refl)
         go false q = applied-ready f w
-    body-ready (ReadReply v) n = doing-ready rs cs P s z (m .task) task (DoneRead v) refl
     body-ready UpdateReply n = doing-ready rs cs P s z (m .task) task DoneUpdate refl
 
     body-refused : (b : Body) → bodyNumber rs i (m .task) (m .reg) b ≢ 0 → bodyWords rs i (m .task) (m .reg) b ≡ rs
@@ -139,13 +139,13 @@ module _ (rs cs : List ℕ) (P : Placement) (s : Published) (z : Ready rs cs P s
         go : (b : Bool) (us : List ℕ) → _≢_ {A = ℕ} (cond b 0 6) 0 → cond b us rs ≡ rs
         go true us q = absurd (q refl)
         go false us q = refl
+    body-refused (ReadReply v) n = absurd (n refl)
     body-refused (UpdateDo f w) n = go (repliesHere rs i (m .task) (m .reg)) (roomy rs i) _ _ n
       where
         go : (a b : Bool) (us ts : List ℕ) → _≢_ {A = ℕ} (cond a (cond b 0 6) 0) 0 → cond a (cond b us rs) ts ≡ rs
         go true true us ts q = absurd (q refl)
         go true false us ts q = refl
         go false b us ts q = absurd (q refl)
-    body-refused (ReadReply v) n = absurd (n refl)
     body-refused UpdateReply n = absurd (n refl)
 
 module _ (rs cs : List ℕ) (P : Placement) (s : Published) (z : Ready rs cs P s) (i : Card) (card : i .0 < cardsOf cs) where
@@ -195,8 +195,8 @@ module _ (rs cs : List ℕ) (P : Placement) (s : Published) (z : Ready rs cs P s
       where
         shown : (b : Body) → ChannelShows (receiveMemory cs i) (channelStep mail (s .channel) (deliver (i .0))) → ChannelShows (receiveMemory cs i) (receiving P s (i .0) (plain l) b .channel)
         shown ReadDo v = v
-        shown (UpdateDo f x) v = v
         shown (ReadReply x) v = v
+        shown (UpdateDo f x) v = v
         shown UpdateReply v = v
 
   pub deliver-follows : StepFollows rs cs P s (outcome (deliverNumber rs cs i) (deliverRegisters rs cs i) (deliverChannel rs cs i)) (good (Step.deliver (i .0)))

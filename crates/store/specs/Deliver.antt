@@ -1,11 +1,11 @@
--- Step 9 (RULES 5.9).
+-- Step 9 (RULES 5.9), the four messages in the order of 000 Figure 5.
 use Prim.Native.Nat.{ℕ, zero, suc}
 use mathlib.Core.Bool.{Bool, true, false, cond, _&&_, not}
 use mathlib.Core.List.{List}
 use lib.Dec.{eqb}
 use Rattle.names.specs.declared.Card.{Card}
 use Rattle.names.specs.declared.Body.{Body}
-use Rattle.names.specs.declared.Body.the-variants.{ReadDo, UpdateDo, ReadReply, UpdateReply}
+use Rattle.names.specs.declared.Body.the-variants.{ReadDo, ReadReply, UpdateDo, UpdateReply}
 use Rattle.names.specs.declared.Message.{Message}
 use Rattle.channel.specs.declared.Received.{Received}
 use Rattle.channel.specs.declared.Received.the-variants.{Got, NoSuchCard, Empty}
@@ -17,39 +17,43 @@ use Rattle.tables.specs.Doings.{doingStored}
 use Rattle.tables.specs.Outbox.{roomy, posted, letterFor}
 use Rattle.store.specs.Perform.{copyUpdated}
 
--- Card i delivers a message of task t on register x.
+-- Card i delivers a message of task t on register x. The figure's j, the sender of a do message, to whom a reply goes, is the task's home.
 
--- the reply of card i, to the task's card
+-- "add (.., {j}) to buffer": the reply of card i, to the task's card
 unfoldable pub replied : List ℕ → ℕ → ℕ → ℕ → Body → List ℕ
 replied ws i t x b = posted ws i (letterFor t x b (onlyCard (homeOf ws t)))
+
+-- "val(x) := f(val(x))" and "if j = i then status(c) := (update-report, ξ, x)": applied; the task is done if its home is card i
+unfoldable pub applied : List ℕ → ℕ → ℕ → ℕ → ℕ → ℕ → List ℕ
+applied ws i t x f w =
+    cond (eqb i (homeOf ws t)) (doingStored (copyUpdated ws i x f w) t DoneUpdate) (copyUpdated ws i x f w)
 
 -- card i is the primary
 abbrev pub isPrimary : ℕ → ℕ → Bool
 isPrimary i p = eqb i p
 
--- an update's reply is due here: the task's home holds no copy, and card i is the register's primary
+-- "if j ∉ sites(x) and i = primary(x)": an update's reply is due here: the task's home holds no copy, and card i is the register's primary
 unfoldable pub repliesHere : List ℕ → ℕ → ℕ → ℕ → Bool
 repliesHere ws i t x = isPrimary i (primaryOf ws x) && not (holds ws x (homeOf ws t))
-
--- the update is applied; if the task's home is card i, the task is done
-unfoldable pub applied : List ℕ → ℕ → ℕ → ℕ → ℕ → ℕ → List ℕ
-applied ws i t x f w =
-    cond (eqb i (homeOf ws t)) (doingStored (copyUpdated ws i x f w) t DoneUpdate) (copyUpdated ws i x f w)
 
 -- 6: the reply would be the 17th in the outbox
 unfoldable pub bodyNumber : List ℕ → ℕ → ℕ → ℕ → Body → ℕ
 bodyNumber ws i t x ReadDo = cond (roomy ws i) 0 6
-bodyNumber ws i t x (UpdateDo f w) = cond (repliesHere ws i t x) (cond (roomy ws i) 0 6) 0
 bodyNumber ws i t x (ReadReply v) = 0
+bodyNumber ws i t x (UpdateDo f w) = cond (repliesHere ws i t x) (cond (roomy ws i) 0 6) 0
 bodyNumber ws i t x UpdateReply = 0
 
 unfoldable pub bodyWords : List ℕ → ℕ → ℕ → ℕ → Body → List ℕ
+-- receive((read-do, c, ξ, x), j)_i
 bodyWords ws i t x ReadDo = cond (roomy ws i) (replied ws i t x (ReadReply (copyOf ws i x))) ws
+-- receive((read-reply, c, ξ, x, v), j)_i
+bodyWords ws i t x (ReadReply v) = doingStored ws t (DoneRead v)
+-- receive((update-do, c, ξ, x, f), j)_i
 bodyWords ws i t x (UpdateDo f w) =
     cond (repliesHere ws i t x)
     (cond (roomy ws i) (replied (applied ws i t x f w) i t x UpdateReply) ws)
     (applied ws i t x f w)
-bodyWords ws i t x (ReadReply v) = doingStored ws t (DoneRead v)
+-- receive((update-reply, c, ξ, x), j)_i
 bodyWords ws i t x UpdateReply = doingStored ws t DoneUpdate
 
 -- a message takes effect

@@ -1,7 +1,8 @@
-// Step 9: the head of a card's inbox is delivered.
+// Step 9: the head of a card's inbox is delivered (RULES 5.9), its parts in the order of 000 Figure 5: read, reply to a read, update, reply to an
+// update. The figure's i is the card, c the message's task; j, the sender of a do message, to whom a reply goes, is that task's home.
 ghost use mathlib.Core.Path.{_≡_};
 ghost use Rattle.names.specs.declared.Body.the-variants.{ReadDo, UpdateDo};
-ghost use Rattle.store.specs.Deliver.{replied, repliesHere, applied, bodyNumber, bodyWords, messageNumber, messageWords, foundNumber, foundWords, deliverNumber, deliverRegisters, deliverChannel};
+ghost use Rattle.store.specs.Deliver.{replied, applied, repliesHere, bodyNumber, bodyWords, messageNumber, messageWords, foundNumber, foundWords, deliverNumber, deliverRegisters, deliverChannel};
 use super::perform::update_copy;
 use super::send::letter_for;
 use channel::Received;
@@ -21,40 +22,76 @@ use tables::layout::primary;
 use tables::outbox::post;
 use tables::outbox::roomy;
 
-// A card's reply to a task's card joins its outbox.
-fn reply(registers: &mut [u32; 593], card: Card, task: Task, register: Register, body: Body)
-    ensures { λ _. ⌜ now (registers .exit) ≡ replied (now (registers .entry)) (card .0) (task .0) (register .0) body ⌝ }
+// Step 9: the channel's inbox is looked at first, and the head leaves it where the step is taken.
+pub(crate) fn deliver(
+    registers: &mut [u32; 593],
+    channel: &mut [u32; channel::WORDS],
+    card: Card,
+) -> u8
+    ensures registers { λ _. ⌜ now (registers .exit) ≡ deliverRegisters (now (registers .entry)) (now (channel .entry)) card ⌝ }
+    ensures channel { λ _. ⌜ now (channel .exit) ≡ deliverChannel (now (registers .entry)) (now (channel .entry)) card ⌝ }
+    ensures number { λ r. ⌜ r ≡ deliverNumber (now (registers .entry)) (now (channel .entry)) card ⌝ }
 {
-    let to = only(home(registers, task));
-    let letter = letter_for(task, register, body, to);
-    post(registers, card, letter);
+    let found = channel::head(channel, card);
+    let number = deliver_found(registers, card, found);
+    if number == 0 {
+        channel::receive(channel, card);
+        return number;
+    }
+    number
 }
 
-// Whether a card owes the reply to an update. Both tests are made: which of them fails is not foreseen.
-fn replies(registers: &[u32; 593], card: Card, task: Task, register: Register) -> bool
-    ensures { λ r. ⌜ r ≡ repliesHere (now (registers .entry)) (card .0) (task .0) (register .0) ⌝ }
+// What is found in the inbox takes effect on a card.
+fn deliver_found(registers: &mut [u32; 593], card: Card, found: Received) -> u8
+    ensures registers { λ _. ⌜ now (registers .exit) ≡ foundWords (now (registers .entry)) (card .0) found ⌝ }
+    ensures number { λ r. ⌜ r ≡ foundNumber (now (registers .entry)) (card .0) found ⌝ }
 {
-    let here = card.0 == primary(registers, register).0;
-    here & !holds(registers, register, home(registers, task))
+    match found {
+        Received::Got(m) => deliver_message(registers, card, m),
+        Received::NoSuchCard => 14,
+        Received::Empty => 33,
+    }
 }
 
-// An update is applied on a card; if the task's home is here, it is done.
-fn apply(
+// A message takes effect on a card.
+fn deliver_message(registers: &mut [u32; 593], card: Card, message: Message) -> u8
+    ensures registers { λ _. ⌜ now (registers .exit) ≡ messageWords (now (registers .entry)) (card .0) message ⌝ }
+    ensures number { λ r. ⌜ r ≡ messageNumber (now (registers .entry)) (card .0) message ⌝ }
+{
+    let body = message.body;
+    deliver_body(registers, card, message.task, message.register, body)
+}
+
+// A message's body takes effect on a card.
+fn deliver_body(
     registers: &mut [u32; 593],
     card: Card,
     task: Task,
     register: Register,
-    function: u32,
-    operand: u32,
-)
-    ensures { λ _. ⌜ now (registers .exit) ≡ applied (now (registers .entry)) (card .0) (task .0) (register .0) function operand ⌝ }
+    body: Body,
+) -> u8
+    ensures registers { λ _. ⌜ now (registers .exit) ≡ bodyWords (now (registers .entry)) (card .0) (task .0) (register .0) body ⌝ }
+    ensures number { λ r. ⌜ r ≡ bodyNumber (now (registers .entry)) (card .0) (task .0) (register .0) body ⌝ }
 {
-    let here = home(registers, task);
-    update_copy(registers, card, register, function, operand);
-    end_update(registers, task, card.0 == here.0);
+    match body {
+        // receive((read-do, c, ξ, x), j)_i
+        Body::ReadDo => deliver_read(registers, card, task, register),
+        // receive((read-reply, c, ξ, x, v), j)_i: "status(c) := (read-report, ξ, x, v)"
+        Body::ReadReply(v) => {
+            store(registers, task, Doing::DoneRead(v));
+            0
+        }
+        // receive((update-do, c, ξ, x, f), j)_i
+        Body::UpdateDo(f, w) => deliver_update(registers, card, task, register, f, w),
+        // receive((update-reply, c, ξ, x), j)_i: "status(c) := (update-report, ξ, x)"
+        Body::UpdateReply => {
+            store(registers, task, Doing::DoneUpdate);
+            0
+        }
+    }
 }
 
-// A read: a reply with the value.
+// receive((read-do, c, ξ, x), j)_i: a reply with the value.
 fn deliver_read(registers: &mut [u32; 593], card: Card, task: Task, register: Register) -> u8
     ensures registers { λ _. ⌜ now (registers .exit) ≡ bodyWords (now (registers .entry)) (card .0) (task .0) (register .0) ReadDo ⌝ }
     ensures number { λ r. ⌜ r ≡ bodyNumber (now (registers .entry)) (card .0) (task .0) (register .0) ReadDo ⌝ }
@@ -67,7 +104,16 @@ fn deliver_read(registers: &mut [u32; 593], card: Card, task: Task, register: Re
     0
 }
 
-// An update.
+// "add ((.., c, ξ, x, ..), {j}) to buffer": a card's reply to a task's card joins its outbox.
+fn reply(registers: &mut [u32; 593], card: Card, task: Task, register: Register, body: Body)
+    ensures { λ _. ⌜ now (registers .exit) ≡ replied (now (registers .entry)) (card .0) (task .0) (register .0) body ⌝ }
+{
+    let to = only(home(registers, task));
+    let letter = letter_for(task, register, body, to);
+    post(registers, card, letter);
+}
+
+// receive((update-do, c, ξ, x, f), j)_i. Room for a reply is asked for before anything is changed.
 fn deliver_update(
     registers: &mut [u32; 593],
     card: Card,
@@ -91,67 +137,26 @@ fn deliver_update(
     0
 }
 
-// A message's body takes effect on a card.
-fn deliver_body(
+// "val(x) := f(val(x))" and "if j = i then status(c) := (update-report, ξ, x)": applied on a card; done, if this is the task's home.
+fn apply(
     registers: &mut [u32; 593],
     card: Card,
     task: Task,
     register: Register,
-    body: Body,
-) -> u8
-    ensures registers { λ _. ⌜ now (registers .exit) ≡ bodyWords (now (registers .entry)) (card .0) (task .0) (register .0) body ⌝ }
-    ensures number { λ r. ⌜ r ≡ bodyNumber (now (registers .entry)) (card .0) (task .0) (register .0) body ⌝ }
+    function: u32,
+    operand: u32,
+)
+    ensures { λ _. ⌜ now (registers .exit) ≡ applied (now (registers .entry)) (card .0) (task .0) (register .0) function operand ⌝ }
 {
-    match body {
-        Body::ReadDo => deliver_read(registers, card, task, register),
-        Body::UpdateDo(f, w) => deliver_update(registers, card, task, register, f, w),
-        Body::ReadReply(v) => {
-            store(registers, task, Doing::DoneRead(v));
-            0
-        }
-        Body::UpdateReply => {
-            store(registers, task, Doing::DoneUpdate);
-            0
-        }
-    }
+    let here = home(registers, task);
+    update_copy(registers, card, register, function, operand);
+    end_update(registers, task, card.0 == here.0);
 }
 
-// A message takes effect on a card.
-fn deliver_message(registers: &mut [u32; 593], card: Card, message: Message) -> u8
-    ensures registers { λ _. ⌜ now (registers .exit) ≡ messageWords (now (registers .entry)) (card .0) message ⌝ }
-    ensures number { λ r. ⌜ r ≡ messageNumber (now (registers .entry)) (card .0) message ⌝ }
+// "if j ∉ sites(x) and i = primary(x)": whether a card owes the reply to an update. Both tests are made: which of them fails is not foreseen.
+fn replies(registers: &[u32; 593], card: Card, task: Task, register: Register) -> bool
+    ensures { λ r. ⌜ r ≡ repliesHere (now (registers .entry)) (card .0) (task .0) (register .0) ⌝ }
 {
-    let body = message.body;
-    deliver_body(registers, card, message.task, message.register, body)
-}
-
-// What is found in the inbox takes effect on a card.
-fn deliver_found(registers: &mut [u32; 593], card: Card, found: Received) -> u8
-    ensures registers { λ _. ⌜ now (registers .exit) ≡ foundWords (now (registers .entry)) (card .0) found ⌝ }
-    ensures number { λ r. ⌜ r ≡ foundNumber (now (registers .entry)) (card .0) found ⌝ }
-{
-    match found {
-        Received::Got(m) => deliver_message(registers, card, m),
-        Received::NoSuchCard => 14,
-        Received::Empty => 33,
-    }
-}
-
-// Step 9: the channel's inbox is looked at first, and the head leaves it where the step is taken.
-pub(crate) fn deliver(
-    registers: &mut [u32; 593],
-    channel: &mut [u32; channel::WORDS],
-    card: Card,
-) -> u8
-    ensures registers { λ _. ⌜ now (registers .exit) ≡ deliverRegisters (now (registers .entry)) (now (channel .entry)) card ⌝ }
-    ensures channel { λ _. ⌜ now (channel .exit) ≡ deliverChannel (now (registers .entry)) (now (channel .entry)) card ⌝ }
-    ensures number { λ r. ⌜ r ≡ deliverNumber (now (registers .entry)) (now (channel .entry)) card ⌝ }
-{
-    let found = channel::head(channel, card);
-    let number = deliver_found(registers, card, found);
-    if number == 0 {
-        channel::receive(channel, card);
-        return number;
-    }
-    number
+    let here = card.0 == primary(registers, register).0;
+    here & !holds(registers, register, home(registers, task))
 }

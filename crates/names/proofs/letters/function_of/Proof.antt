@@ -9,11 +9,11 @@ use Rattle.names.proofs.letters.function_of.Lts as lts
 enum-told : tie.Need-enum-told
 enum-told c = search needs
 
-enum-known-body : tie.Need-enum-known-body
-enum-known-body c = search needs
-
 enum-told-2 : tie.Need-enum-told-2
 enum-told-2 c = search needs
+
+enum-known-body : tie.Need-enum-known-body
+enum-known-body c = search needs
 
 enum-told-3 : tie.Need-enum-told-3
 enum-told-3 c = search needs
@@ -39,8 +39,8 @@ function-of-spec =
     tie.close
     (tie.spec
     enum-told
-    enum-known-body
     enum-told-2
+    enum-known-body
     enum-told-3
     returns
     returns-2

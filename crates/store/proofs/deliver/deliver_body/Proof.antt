@@ -13,14 +13,14 @@ deliver-read-requires c κs = search needs
 enum-known-body : tie.Need-enum-known-body
 enum-known-body c = search needs
 
-deliver-update-requires : tie.Need-deliver-update-requires
-deliver-update-requires c κs = search needs
+store-requires : tie.Need-store-requires
+store-requires c κs = search needs
 
 enum-known-body-2 : tie.Need-enum-known-body-2
 enum-known-body-2 c = search needs
 
-store-requires : tie.Need-store-requires
-store-requires c κs = search needs
+deliver-update-requires : tie.Need-deliver-update-requires
+deliver-update-requires c κs = search needs
 
 enum-told-2 : tie.Need-enum-told-2
 enum-told-2 c = search needs
@@ -34,15 +34,15 @@ returns c = (rw (c .before .before .enum-told .given .1) (c .deliver-read .ensur
 
 returns-2 : tie.Need-returns-2
 unfolding bodyNumber bodyWords
-returns-2 c = (rw (c .before .before .before .body .given .1) (c .deliver-update .ensures .0), rw (c .before .before .before .body .given .1) (c .deliver-update .ensures .1))
+returns-2 c = (rw (c .before .before .before .body .given .1) (c .store .ensures), rw (c .before .before .before .body .given .1))
 
 returns-3 : tie.Need-returns-3
 unfolding bodyNumber bodyWords
-returns-3 c = (rw (c .before .before .before .body2 .given .1) (c .store .ensures), rw (c .before .before .before .body2 .given .1))
+returns-3 c = (rw (c .before .before .before .body2 .given .1) (c .deliver-update .ensures .0), rw (c .before .before .before .body2 .given .1) (c .deliver-update .ensures .1))
 
 returns-4 : tie.Need-returns-4
 unfolding bodyNumber bodyWords
 returns-4 c = (rw (c .before .before .enum-told2 .given .1) (c .store2 .ensures), rw (c .before .before .enum-told2 .given .1))
 
 pub deliver-body-spec : {M : Type 1} → statement M
-deliver-body-spec = tie.close (tie.spec enum-told deliver-read-requires enum-known-body deliver-update-requires enum-known-body-2 store-requires enum-told-2 store-requires-2 returns returns-2 returns-3 returns-4)
+deliver-body-spec = tie.close (tie.spec enum-told deliver-read-requires enum-known-body store-requires enum-known-body-2 deliver-update-requires enum-told-2 store-requires-2 returns returns-2 returns-3 returns-4)
