@@ -33,6 +33,7 @@ struct Letter {
 #[derive(PartialEq)]
 enum Answer {
     Done,
+    Held,
     Refused(u8),
 }
 
@@ -134,19 +135,21 @@ impl Channel {
         }
         let Some(letter) = self.flight[task as usize] else { return Answer::Refused(32) };
         let card = letter.to.trailing_zeros() as usize;
-        if letter.tag <= self.taken[card] {
+        let answer = if letter.tag <= self.taken[card] {
             if self.inbox[card].len() >= 48 {
                 return Answer::Refused(6);
             }
             self.inbox[card].push_back(letter);
+            Answer::Done
         } else {
             if self.held[card].len() >= 16 {
                 return Answer::Refused(6);
             }
             self.held[card].push(letter);
-        }
+            Answer::Held
+        };
         self.flight[task as usize] = None;
-        Answer::Done
+        answer
     }
 
     #[inline(never)]

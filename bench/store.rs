@@ -25,7 +25,7 @@ use std::hint::black_box;
 use std::mem::size_of;
 
 use clock::{median, timed};
-use gondzselu::Refusal;
+use gondzselu::{Refusal, Taken};
 use gondzselu_model::generate::{file_of, Kind};
 use gondzselu_model::model::files::{answer_into, Run};
 use gondzselu_model::model::tally::Tally;
@@ -101,9 +101,9 @@ fn played<S>(
     })
 }
 
-fn numbers(answer: Result<u32, Refusal>) -> (u8, u32) {
+fn numbers(answer: Result<Taken, Refusal>) -> (u8, u32) {
     match answer {
-        Ok(value) => (0, value),
+        Ok(taken) => (taken.result(), taken.value),
         Err(refusal) => (refusal.number(), 0),
     }
 }

@@ -32,7 +32,7 @@ extern "C" {
 /* ---- version */
 
 #define GONDZSELU_VERSION_MAJOR 0
-#define GONDZSELU_VERSION_MINOR 6
+#define GONDZSELU_VERSION_MINOR 7
 #define GONDZSELU_VERSION_PATCH 0
 #define GONDZSELU_VERSION \
     (GONDZSELU_VERSION_MAJOR * 1000000 + GONDZSELU_VERSION_MINOR * 1000 + GONDZSELU_VERSION_PATCH)
@@ -76,7 +76,8 @@ typedef struct gondzselu_store {
     gondzselu_channel channel;
 } gondzselu_store;
 
-/* Steps taken and steps refused, 0 and 0 at first. A count stays at its largest value (RULES 9). */
+/* Steps taken, with result 0, or 100 where step 8's message is held, and steps refused; 0 and 0 at
+ * first. A count stays at its largest value (RULES 9). */
 typedef struct gondzselu_tally {
     uint32_t taken;
     uint32_t refused;
@@ -119,6 +120,7 @@ enum gondzselu_condition {
  * and the length of a sentence or of a written file are then 0, and a tally counts the step. */
 enum gondzselu_refusal {
     GONDZSELU_TAKEN = 0, /* no refusal: the step is taken; the file or placement is accepted */
+    GONDZSELU_HELD = 100, /* no refusal: step 8 is taken, and its message is held (RULES 5.8) */
     /* of a file or a placement */
     GONDZSELU_FILE_TOO_SHORT = 1,
     GONDZSELU_FILE_TOO_LONG = 2,
@@ -150,10 +152,17 @@ enum gondzselu_refusal {
     GONDZSELU_NO_PHRASE = 36 /* the number is no refusal of a step */
 };
 
+/* Whether a step with this result is taken: 1 for 0 and 100, else 0. Comparing a result with 0
+ * alone would call a step refused whose message is held. */
+static inline int gondzselu_taken(uint8_t result) {
+    return result == GONDZSELU_TAKEN || result == GONDZSELU_HELD;
+}
+
 /* ---- a whole run */
 
-/* Answers a run file (RULES 3) into an output of at least 2 + 5 * steps bytes (RULES 4). Gives 0,
- * or 1 to 5 with the output as it was. Bytes past the answer stay as they were. */
+/* Answers a run file (RULES 3) into an output of at least 2 + 5 * steps bytes (RULES 4): there the
+ * result of a step is 0, or 100 where step 8's message is held, or its refusal. Gives 0, or 1 to 5
+ * with the output as it was. Bytes past the answer stay as they were. */
 uint8_t gondzselu_answer(const uint8_t *file, size_t file_length,
                          uint8_t *output, size_t output_length);
 
@@ -178,20 +187,23 @@ uint8_t gondzselu_start_file(gondzselu_registers *registers, gondzselu_channel *
                              const uint8_t *file, size_t file_length);
 
 /* Takes a step: its code and its eight argument bytes (RULES 3.3), which gondzselu_fill_..
- * writes. First checks the whole state. Gives 0, or 6 to 35 in the order of RULES 8.5 with both
- * memories as they were. Writes the value in every case: what a reported read gave, else 0. */
+ * writes. First checks the whole state. Gives 0, or 100 where step 8's message is held; or 6 to 35
+ * in the order of RULES 8.5 with both memories as they were. gondzselu_taken says which it is.
+ * Writes the value in every case: what a reported read gave, else 0. */
 uint8_t gondzselu_step(gondzselu_registers *registers, gondzselu_channel *channel,
                        uint8_t code, const uint8_t argument[8], uint32_t *value);
 
-/* The same, and counts its result in the tally: every refusal, 6 too (RULES 9.3). */
+/* The same, and counts its result in the tally: 0, or 100 where step 8's message is held, as taken;
+ * every refusal, 6 too, as refused (RULES 9.3). */
 uint8_t gondzselu_step_counted(gondzselu_registers *registers, gondzselu_channel *channel,
                                uint8_t code, const uint8_t argument[8], uint32_t *value,
                                gondzselu_tally *tally);
 
 /* gondzselu_step without its check of the state, which in a large store is nearly all of its time:
  * some 20 ns instead of 0.15 microseconds. For a store that only this library has written since its
- * start: on every well-sized state (RULES 8.6) it does what gondzselu_step does. On other words it
- * ends and stays inside what it is lent; what it gives and writes then means nothing. */
+ * start: on every well-sized state (RULES 8.6) it does what gondzselu_step does and gives 0, or 100
+ * where step 8's message is held, or 6 to 35. On other words it ends and stays inside what it is
+ * lent; what it gives and writes then means nothing. */
 uint8_t gondzselu_advance(gondzselu_registers *registers, gondzselu_channel *channel,
                           uint8_t code, const uint8_t argument[8], uint32_t *value);
 
@@ -286,9 +298,9 @@ uint8_t gondzselu_write(uint32_t cards, const uint8_t *homes, size_t homes_lengt
 
 /* Writes a sentence (RULES 14) of a step, by its place from 0 on, and its refusal: of 12 and 33
  * "step 12: the card has nothing to deliver". GONDZSELU_SENTENCE_MAX bytes are always enough, and
- * printf takes them by "%.*s". Gives 0; or 36 for a number that no step is refused with, then 5 for
- * an output shorter than the sentence, with the output as it was. Bytes past the sentence stay as
- * they were. Writes the length in every case: of the sentence, or 0. */
+ * printf takes them by "%.*s". Gives 0; or 36 for a number that no step is refused with, 0 and 100
+ * too, then 5 for an output shorter than the sentence, with the output as it was. Bytes past the
+ * sentence stay as they were. Writes the length in every case: of the sentence, or 0. */
 uint8_t gondzselu_sentence(uint32_t step, uint8_t refusal,
                            uint8_t *output, size_t output_length, uint32_t *length);
 

@@ -1,7 +1,7 @@
 //! The context multicast channel (RULES 5.6 to 5.8, chapter 6), and how messages join its queues.
 
 use crate::word::*;
-use crate::{refused, Answer, Store, BROADCASTS, HELD, INBOX, MOST, OUTBOX, TAKEN};
+use crate::{refused, Answer, Store, BROADCASTS, HELD, INBOX, MOST, OUTBOX, TAKEN, TAKEN_HELD};
 
 /// Undelivered broadcasts in an inbox (RULES 7.6).
 const UNDELIVERED: usize = 32;
@@ -121,11 +121,12 @@ impl Store {
             return refused(32);
         }
         let card = (message.word >> TO).trailing_zeros() as usize & 7;
-        if tag <= self.taken[card] {
+        let answer = if tag <= self.taken[card] {
             if self.inbox_count[card] as usize >= INBOX {
                 return refused(6);
             }
             self.join_inbox(card, message);
+            TAKEN
         } else {
             let place = self.held_count[card] as usize;
             if place >= HELD {
@@ -134,8 +135,9 @@ impl Store {
             self.held[card][place] = message;
             self.held_tag[card][place] = tag;
             self.held_count[card] = place as u32 + 1;
-        }
+            TAKEN_HELD
+        };
         self.flight[task].word = 0;
-        TAKEN
+        answer
     }
 }

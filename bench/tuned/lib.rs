@@ -35,10 +35,11 @@ pub use run::answer;
 use word::{Message, READ, UPDATE};
 pub use write::{write, Tables};
 
-/// A result (0 taken, else the refusal) and a value.
+/// A result (0 taken, 100 taken and its message held, else the refusal) and a value.
 type Answer = (u8, u32);
 
 const TAKEN: Answer = (0, 0);
+const TAKEN_HELD: Answer = (100, 0);
 
 const fn refused(refusal: u8) -> Answer {
     (refusal, 0)

@@ -1,7 +1,7 @@
 /*
- * Answers a run file: the result and the value of each step that is taken, a sentence for each that
- * is refused, then the tally. A refused file gets one line, its refusal. Ends with 1 if a read or a
- * write failed, with 2 if called wrongly.
+ * Answers a run file: the result and the value of each step that is taken, and whether its message
+ * is held, a sentence for each that is refused, then the tally. A refused file gets one line, its
+ * refusal. Ends with 1 if a read or a write failed, with 2 if called wrongly.
  *
  *   firmware/install PREFIX
  *   export PKG_CONFIG_PATH=PREFIX/lib/pkgconfig
@@ -37,14 +37,15 @@ static int read_file(const char *name, size_t *length) {
     return 0;
 }
 
-/* A refused step's sentence. A taken step has none: its result, 0, and its value. */
+/* A refused step's sentence. A taken step has none: its result, 0 or 100, and its value. */
 static void print_step(uint32_t step, uint8_t result, uint32_t value) {
     uint8_t text[GONDZSELU_SENTENCE_MAX];
     uint32_t length;
     if (gondzselu_sentence(step, result, text, sizeof text, &length) == 0)
         printf("%.*s\n", (int)length, (const char *)text);
     else
-        printf("step %" PRIu32 ": %u, %" PRIu32 "\n", step, result, value);
+        printf("step %" PRIu32 ": %u, %" PRIu32 "%s\n", step, result, value,
+               result == GONDZSELU_HELD ? " (held)" : "");
 }
 
 static void print_answer(size_t length) {

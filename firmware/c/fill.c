@@ -1,7 +1,7 @@
 /*
- * What the header's gondzselu_fill_.. functions write and give, against RULES 3.3 and 5: every step
- * with present numbers, then with numbers that would wrap into present ones. Ends with 1 if one is
- * otherwise. C11 and C++.
+ * What the header's own functions do, without the library. gondzselu_fill_.. against RULES 3.3 and
+ * 5: every step with present numbers, then with numbers that would wrap into present ones; and
+ * gondzselu_taken of every number, against RULES 4.2. Ends with 1 if one is otherwise. C11 and C++.
  */
 #include <stdio.h>
 #include <string.h>
@@ -46,5 +46,10 @@ int main(void) {
     expect(4, "\xFF\xFF\0\0\0\0\0\0", gondzselu_fill_send_read(a, 0xFFFFFF00, 512));
     expect(6, "\xFF\0\0\0\0\0\0\0", gondzselu_fill_dispatch(a, 0x1000000));
     expect(10, "\xFF\0\0\0\0\0\0\0", gondzselu_fill_report(a, 256));
+    for (int k = 0; k < 256; k++)
+        if (gondzselu_taken((uint8_t)k) != (k == 0 || k == 100)) {
+            fprintf(stderr, "fill: result %d is taken, or is not, wrongly\n", k);
+            wrong = 1;
+        }
     return wrong;
 }

@@ -39,12 +39,12 @@ int main(void) {
     if (gondzselu_version() != GONDZSELU_VERSION) return fail("library and header differ");
     if (gondzselu_start(&r, &c, CARDS, homes, TASKS, copies, REGISTERS, primaries, REGISTERS))
         return fail("the placement is refused");
-    for (int i = 0; i < STEPS; i++) {
+    for (int i = 0; i < STEPS; i++, putchar('\n')) {
         uint32_t value; /* what a reported read gave; K9 reports no update, which would give 0 */
-        int result = gondzselu_step_counted(&r, &c, steps[i].code, a[i], &value, &tally);
-        printf("%2d  %-40s%2d %s", i, steps[i].words, result, result ? "refused" : "taken");
-        if (steps[i].code == GONDZSELU_REPORT && !result) printf(", value %u", value);
-        putchar('\n');
+        uint8_t n = gondzselu_step_counted(&r, &c, steps[i].code, a[i], &value, &tally);
+        const char *said = n == GONDZSELU_HELD ? "held" : gondzselu_taken(n) ? "taken" : "refused";
+        printf("%2d  %-39s%3d %s", i, steps[i].words, n, said);
+        if (steps[i].code == GONDZSELU_REPORT && gondzselu_taken(n)) printf(", value %u", value);
     }
     printf("requests %u, broadcasts %u\n", gondzselu_requests(&r), gondzselu_broadcasts(&c));
     for (unsigned i = 0; i < CARDS; i++, putchar('\n')) {

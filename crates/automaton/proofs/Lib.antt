@@ -41,3 +41,5 @@ pub mod CallsComplete
 pub mod KeepsUp
 pub mod ReleasedLists
 pub mod RefusalsMean
+pub mod RefusalsSmall
+pub mod HoldingMeaning

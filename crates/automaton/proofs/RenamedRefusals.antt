@@ -1,4 +1,4 @@
--- The same messages under other names are refused alike.
+-- The same messages under other names are refused alike, and held alike.
 use lib.Dec.{leb, ltb}
 use mathlib.Core.Path.{_≡_, refl, sym, ap, ap₂, _∙_}
 use mathlib.Core.Bool.{cond, _&&_}
@@ -15,6 +15,7 @@ use Rattle.automaton.specs.MostBehind.{keepsUp}
 use Rattle.automaton.specs.Mail.{Mail}
 use Rattle.automaton.specs.State.{Tagged, ChannelState, released, ChannelAction, dispatch, takeBroadcast, takeSingle, deliver, ripe}
 use Rattle.automaton.specs.Refusals.{otherwise, broadcastRefusal, flightRefusal, dispatchRefusal, takeRefusal, singleRefusal, receiveRefusal, channelRefusal}
+use Rattle.automaton.specs.Holding.{heldBack, holds}
 use Rattle.automaton.specs.Renaming.{tag-map, channel-map, action-map, Alike, SentAlike}
 use Rattle.automaton.proofs.RenamedLists.{nth-map, released-map}
 
@@ -65,3 +66,13 @@ module _ {M N : Type 0} (h : M → N) (a : Mail M) (b : Mail N) (r : Alike h a b
       ∙ takeRefusal-map w i (nth (w .sent) (w .taken i)) (λ m e. u (w .taken i) m e i)
   channelRefusal-map w u (takeSingle c) = singleRefusal-map w (w .flight c)
   channelRefusal-map w u (deliver i) = receiveRefusal-map (w .inbox i)
+
+  heldBack-map : (w : ChannelState M) (o : Option (Tagged M)) → heldBack b (channel-map h w) (Option·map (tag-map h) o) ≡ heldBack a w o
+  heldBack-map w none = refl
+  heldBack-map w (some x) = rw (r .dest= (x .msg))
+
+  pub holds-map : (w : ChannelState M) (x : ChannelAction M) → holds b (channel-map h w) (action-map h x) ≡ holds a w x
+  holds-map w (dispatch i m) = refl
+  holds-map w (takeBroadcast i) = refl
+  holds-map w (takeSingle c) = heldBack-map w (w .flight c)
+  holds-map w (deliver i) = refl

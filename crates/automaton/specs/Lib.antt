@@ -5,6 +5,8 @@ pub mod Renaming
 pub mod MostBehind
 pub mod Refusals
 pub mod RefusalMeanings
+pub mod Holding
+pub mod HoldingMeaning
 -- 000 §6: the automaton, the order T, and the steps that an operation is
 pub mod Network
 pub mod Automaton

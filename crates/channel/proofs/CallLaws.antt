@@ -1,5 +1,5 @@
 -- Each call on a well-sized memory does and answers what the idealised channel does and answers.
-use Prim.Native.Nat.{ℕ, _+_}
+use Prim.Native.Nat.{ℕ, _+_, _<_}
 use mathlib.Core.Path.{_≡_, refl, sym, ap, _∙_}
 use mathlib.Core.Bool.{Bool, true, false, cond, _&&_}
 use mathlib.Core.Logic.{_≢_}
@@ -18,9 +18,13 @@ use Rattle.channel.specs.declared.Answer.the-variants.{NoCard}
 use Rattle.channel.specs.declared.Received.the-variants.{Got, NoSuchCard, Empty}
 use Rattle.automaton.specs.State.{ChannelState, ChannelAction, dispatch, takeBroadcast, takeSingle, deliver, channelStep}
 use Rattle.automaton.specs.Refusals.{otherwise, channelRefusal}
+use Rattle.automaton.specs.Holding.{holds}
+use Rattle.automaton.proofs.RefusalsSmall.{cond-small, channel-small}
 use Rattle.channel.specs.Layout.{channelWords, cardsOf, tasksOf, countOf, broadcastBlock, madeOf}
 use Rattle.names.specs.CardSet.{several}
 use Rattle.names.specs.Letters.{letterAt}
+use Rattle.names.specs.Results.{isTaken, resultFrom}
+use Rattle.names.proofs.Results.{taken-zero, result-plain, taken-is}
 use Rattle.channel.specs.Letters.{fits}
 use Rattle.channel.specs.Answers.{answerNumber, receivedNumber, isDone}
 use Rattle.channel.specs.Inbox.{gotOf, popped, receiveAnswer, receiveMemory}
@@ -30,13 +34,13 @@ use Rattle.channel.specs.Dispatch.{castAnswer, castMemory, flyAnswer, fl
 use Rattle.channel.specs.Sized.{wellSized}
 use Rattle.channel.specs.Shows.{letterMail, Shows, stateOf}
 use Rattle.automaton.specs.Calls.{done}
-use Rattle.channel.specs.MemoryCalls.{Call, dispatchCall, takeBroadcastCall, takeSingleCall, receiveCall, callNumber, callMemory, actionOf, orElse, absent, unfit, callRefusal, letters, CallFollows}
+use Rattle.channel.specs.MemoryCalls.{Call, dispatchCall, takeBroadcastCall, takeSingleCall, receiveCall, callNumber, callMemory, actionOf, orElse, absent, unfit, callRefusal, callResult, letters, CallFollows}
 use Rattle.channel.proofs.SizedFacts.{Sized}
 use Rattle.channel.proofs.AnswerNumbers.{done-number}
 use Rattle.channel.proofs.Receiving.{receive-number, receive-left}
 use Rattle.channel.proofs.TakeBroadcastLaw.{take-number, take-left}
 use Rattle.channel.proofs.TakeSingleLaw.{single-number, single-left}
-use Rattle.channel.proofs.DispatchLaw.{dispatch-number, dispatch-left}
+use Rattle.channel.proofs.DispatchLaw.{or-else-small, six-small, dispatch-number, dispatch-left}
 use Rattle.channel.proofs.WellSizedParts.{Fit, fit-of, of-fit}
 use Rattle.channel.proofs.FitKept.{sized-of}
 use Rattle.channel.proofs.SizedReceive.{receive-keeps}
@@ -44,6 +48,7 @@ use Rattle.channel.proofs.SizedTakeBroadcast.{take-keeps}
 use Rattle.channel.proofs.SizedTakeSingle.{single-keeps}
 use Rattle.channel.proofs.SizedDispatch.{dispatch-keeps}
 use Rattle.lists.specs.Listings.{listing-length}
+use Rattle.lists.specs.Tests.{clash}
 
 -- ---- refusals
 
@@ -71,6 +76,29 @@ refused-is ms w x = go (absent ms x) (channelRefusal letterMail (cardsOf ms) w x
         first true e = second (eqb r 0) refl
         first false e = sym e
 
+-- and no refusal is as large as the number of a held message
+call-small : (ms : List ℕ) (w : ChannelState Letter) (x : ChannelAction Letter) → callRefusal ms w x < 100
+unfolding callRefusal
+call-small ms w x =
+    or-else-small (absent ms x) _ (away x) (or-else-small (channelRefusal letterMail (cardsOf ms) w x) (unfit ms x) (channel-small letterMail (cardsOf ms) w x) (unfits x))
+  where
+    away : (y : ChannelAction Letter) → absent ms y < 100
+    away (dispatch i l) = cond-small (ltb i (cardsOf ms)) 0 14 (omega arith) (omega arith)
+    away (takeBroadcast i) = cond-small (ltb i (cardsOf ms)) 0 14 (omega arith) (omega arith)
+    away (takeSingle t) = cond-small (ltb t (tasksOf ms)) 0 12 (omega arith) (omega arith)
+    away (deliver i) = cond-small (ltb i (cardsOf ms)) 0 14 (omega arith) (omega arith)
+
+    unfits : (y : ChannelAction Letter) → unfit ms y < 100
+    unfits (dispatch i l) = six-small (fits ms l)
+    unfits (takeBroadcast i) = omega arith
+    unfits (takeSingle t) = omega arith
+    unfits (deliver i) = omega arith
+
+-- so a result says taken exactly if the call is done
+pub taken-done : (ms : List ℕ) (w : ChannelState Letter) (x : ChannelAction Letter) → isTaken (callResult ms w x) ≡ done (letters ms) w x
+unfolding callResult
+taken-done ms w x = taken-is (callRefusal ms w x) (holds letterMail w x) (call-small ms w x) ∙ sym (refused-is ms w x)
+
 -- a card or a task that is absent, else what else refuses it
 present : (b : Bool) (r n : ℕ) → n ≢ 0 → cond b r n ≡ orElse (cond b 0 n) r
 present true r n h = refl
@@ -85,15 +113,14 @@ fine r = go (eqb r 0) refl
 
 -- ---- a refused call leaves the memory
 
--- an answer's number is 0 only for `Done`
-left-alone : (ws us : List ℕ) (a : Answer) → answerNumber a ≢ 0 → cond (isDone a) us ws ≡ ws
-left-alone ws us a h = rw (done-number a, ne-eqb (answerNumber a) 0 h)
+left-alone : (ws us : List ℕ) (a : Answer) → isTaken (answerNumber a) ≡ false → cond (isDone a) us ws ≡ ws
+left-alone ws us a h = rw (done-number a, h)
 
-cast-alone : (ws : List ℕ) (l : Letter) → answerNumber (castAnswer ws l) ≢ 0 → castMemory ws l ≡ ws
+cast-alone : (ws : List ℕ) (l : Letter) → isTaken (answerNumber (castAnswer ws l)) ≡ false → castMemory ws l ≡ ws
 unfolding castMemory
 cast-alone ws l h = left-alone ws _ (castAnswer ws l) h
 
-fly-alone : (ws : List ℕ) (i : ℕ) (l : Letter) → answerNumber (flyAnswer ws l) ≢ 0 → flyMemory ws i l ≡ ws
+fly-alone : (ws : List ℕ) (i : ℕ) (l : Letter) → isTaken (answerNumber (flyAnswer ws l)) ≡ false → flyMemory ws i l ≡ ws
 unfolding flyMemory
 fly-alone ws i l h = left-alone ws _ (flyAnswer ws l) h
 
@@ -105,6 +132,11 @@ module _ (ws : List ℕ) (w : ChannelState Letter) (long : length ws ≡ channel
 
   z : Sized ws
   z = sized-of ws long f
+
+  -- a call that holds no message answers its refusal
+  plain : (x : ChannelAction Letter) → holds letterMail w x ≡ false → callRefusal ws w x ≡ callResult ws w x
+  unfolding callResult
+  plain x e = rw e (sym (result-plain (callRefusal ws w x)))
 
   -- the memory left shows what the idealised call leaves, where it does for a number that is the refusal
   reads : (us : List ℕ) (x : ChannelAction Letter) (r : ℕ) → r ≡ callRefusal ws w x → Shows us (cond (eqb r 0) (channelStep letterMail w x) w)
@@ -140,7 +172,7 @@ module _ (ws : List ℕ) (w : ChannelState Letter) (long : length ws ≡ channel
       let k = dispatch-keeps ws long f card m to in
       let n = dispatch-number ws w z v card m to in
       record {
-        number = n ∙ dispatch-refusal card m to;
+        number = n ∙ dispatch-refusal card m to ∙ plain (actionOf (dispatchCall card m to)) refl;
         shows = reads (dispatchMemory ws card m to) (actionOf (dispatchCall card m to)) _ (dispatch-refusal card m to) (dispatch-left ws w z v card m to);
         sized = of-fit (dispatchMemory ws card m to) (k .fit);
         long = k .long;
@@ -151,7 +183,7 @@ module _ (ws : List ℕ) (w : ChannelState Letter) (long : length ws ≡ channel
       l : Letter
       l = letterTo m to
 
-      alone : (b c : Bool) → answerNumber (cond b (cond c (castAnswer ws l) (flyAnswer ws l)) NoCard) ≢ 0
+      alone : (b c : Bool) → isTaken (answerNumber (cond b (cond c (castAnswer ws l) (flyAnswer ws l)) NoCard)) ≡ false
           → cond b (cond c (castMemory ws l) (flyMemory ws (card .0) l)) ws ≡ ws
       alone true true h = cast-alone ws l h
       alone true false h = fly-alone ws (card .0) l h
@@ -162,7 +194,7 @@ module _ (ws : List ℕ) (w : ChannelState Letter) (long : length ws ≡ channel
   take-follows card =
       let k = take-keeps ws long f card in
       record {
-        number = take-number ws w z v card ∙ take-refusal card;
+        number = take-number ws w z v card ∙ take-refusal card ∙ plain (actionOf (takeBroadcastCall card)) refl;
         shows = reads (takeMemory ws card) (actionOf (takeBroadcastCall card)) _ (take-refusal card) (take-left ws w z v card);
         sized = of-fit (takeMemory ws card) (k .fit);
         long = k .long;
@@ -171,11 +203,11 @@ module _ (ws : List ℕ) (w : ChannelState Letter) (long : length ws ≡ channel
       }
 
   single-follows : (task : Task) → CallFollows ws w (takeSingleCall task)
-  unfolding callNumber callMemory channelRefusal singleMemory
+  unfolding callNumber callMemory callResult channelRefusal singleMemory
   single-follows task =
       let k = single-keeps ws long f task in
       record {
-        number = single-number ws w z v task ∙ single-refusal task;
+        number = single-number ws w z v task ∙ ap (λ r. resultFrom r (holds letterMail w (takeSingle (task .0)))) (single-refusal task);
         shows = reads (singleMemory ws task) (actionOf (takeSingleCall task)) _ (single-refusal task) (single-left ws w z v task);
         sized = of-fit (singleMemory ws task) (k .fit);
         long = k .long;
@@ -188,7 +220,7 @@ module _ (ws : List ℕ) (w : ChannelState Letter) (long : length ws ≡ channel
   receive-follows card =
       let k = receive-keeps ws long f card in
       record {
-        number = receive-number ws w z v card ∙ receive-refusal card;
+        number = receive-number ws w z v card ∙ receive-refusal card ∙ plain (actionOf (receiveCall card)) refl;
         shows = reads (receiveMemory ws card) (actionOf (receiveCall card)) _ (receive-refusal card) (receive-left ws w z v card);
         sized = of-fit (receiveMemory ws card) (k .fit);
         long = k .long;
@@ -196,9 +228,9 @@ module _ (ws : List ℕ) (w : ChannelState Letter) (long : length ws ≡ channel
         untouched = λ h. alone (ltb (card .0) (cardsOf ws)) (eqb (countOf ws (card .0)) 0) _ _ h;
       }
     where
-      alone : (b c : Bool) (m : Message) (us : List ℕ) → receivedNumber (cond b (cond c Empty (Got m)) NoSuchCard) ≢ 0 → cond b (cond c ws us) ws ≡ ws
+      alone : (b c : Bool) (m : Message) (us : List ℕ) → isTaken (receivedNumber (cond b (cond c Empty (Got m)) NoSuchCard)) ≡ false → cond b (cond c ws us) ws ≡ ws
       alone true true m us h = refl
-      alone true false m us h = absurd (h refl)
+      alone true false m us h = absurd (clash taken-zero h)
       alone false c m us h = refl
 
   pub call-follows : (c : Call) → CallFollows ws w c

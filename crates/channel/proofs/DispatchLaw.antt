@@ -5,6 +5,7 @@ use mathlib.Core.Bool.{Bool, true, false, cond}
 use mathlib.Core.List.{List}
 use mathlib.Core.Option.{Option, none, some}
 use native.Mathlib.Numerals.{add-one}
+use native.Mathlib.Omega.{arith}
 use borrow.Author.Tests.{ltb-true}
 use lib.Dec.{eqb, ltb}
 use lib.ListN.{length}
@@ -17,6 +18,7 @@ use Rattle.channel.specs.declared.Answer.the-variants.{Done, IllSized, N
 use Rattle.automaton.specs.State.{Tagged, ChannelState, dispatching}
 use Rattle.automaton.specs.Refusals.{otherwise, broadcastRefusal, flightRefusal, dispatchRefusal}
 use Rattle.automaton.specs.MostBehind.{keepsUp}
+use Rattle.automaton.proofs.RefusalsSmall.{otherwise-small, cond-small, flight-small, broadcast-small}
 use Rattle.channel.specs.Layout.{cardsOf, tasksOf, madeOf, takenOf, flightBlock}
 use Rattle.names.specs.CardSet.{several}
 use Rattle.channel.specs.Letters.{fits}
@@ -26,9 +28,16 @@ use Rattle.channel.specs.Dispatch.{nearAt, near, castAnswer, castMemory,
 use Rattle.channel.specs.Shows.{letterMail, taggedAt, flightOf, Shows}
 use Rattle.channel.specs.MemoryCalls.{orElse}
 use Rattle.channel.proofs.SizedFacts.{Sized}
-use Rattle.channel.proofs.AnswerNumbers.{picked, settle}
+use Rattle.channel.proofs.AnswerNumbers.{done-plain, picked, settle}
 use Rattle.channel.proofs.LetterFits.{fits-is, fits-packs}
 use Rattle.channel.proofs.Sending.{fly-shows, cast-shows}
+
+-- numbers below 100
+pub or-else-small : (r s : ℕ) → r < 100 → s < 100 → orElse r s < 100
+or-else-small r s h g = cond-small (eqb r 0) s r g h
+
+pub six-small : (b : Bool) → otherwise 6 b < 100
+six-small b = otherwise-small 6 b (omega arith)
 
 module _ (ws : List ℕ) (w : ChannelState Letter) (z : Sized ws) (v : Shows ws w) where
   -- 34 looks at each present card
@@ -36,7 +45,13 @@ module _ (ws : List ℕ) (w : ChannelState Letter) (z : Sized ws) (v : Shows ws 
   unfolding near nearAt
   near-is = each-cong (cardsOf ws) _ _ (λ i c. rw (v .made=, v .taken= i c) (ap (λ n. keepsUp n (takenOf ws i)) (add-one (madeOf ws))))
 
-  cast-number : (l : Letter) → answerNumber (castAnswer ws l) ≡ orElse (broadcastRefusal letterMail (cardsOf ws) w) (otherwise 6 (fits ws l))
+  abbrev cast-refusal : Letter → ℕ
+  cast-refusal l = orElse (broadcastRefusal letterMail (cardsOf ws) w) (otherwise 6 (fits ws l))
+
+  abbrev fly-refusal : Letter → ℕ
+  fly-refusal l = orElse (flightRefusal letterMail (cardsOf ws) (w .flight (l .message .task .0))) (otherwise 6 (fits ws l))
+
+  cast-number : (l : Letter) → answerNumber (castAnswer ws l) ≡ cast-refusal l
   unfolding castAnswer answerNumber
   cast-number l = rw (near-is, v .made=) (go (each (cardsOf ws) (λ i. keepsUp (suc (madeOf ws)) (w .taken i))) (fits ws l) (ltb (madeOf ws) 65535))
     where
@@ -50,8 +65,7 @@ module _ (ws : List ℕ) (w : ChannelState Letter) (z : Sized ws) (v : Shows ws 
       go false false true = refl
       go false false false = refl
 
-  fly-number : (l : Letter)
-      → answerNumber (flyAnswer ws l) ≡ orElse (flightRefusal letterMail (cardsOf ws) (w .flight (l .message .task .0))) (otherwise 6 (fits ws l))
+  fly-number : (l : Letter) → answerNumber (flyAnswer ws l) ≡ fly-refusal l
   unfolding flyAnswer answerNumber flightOf
   fly-number l = go (fits ws l) refl
     where
@@ -88,19 +102,18 @@ module _ (ws : List ℕ) (w : ChannelState Letter) (z : Sized ws) (v : Shows ws 
         go true false = fly-number l
         go false c = refl
 
-    cast-left : Shows (castMemory ws l)
-        (cond (eqb (orElse (broadcastRefusal letterMail (cardsOf ws) w) (otherwise 6 (fits ws l))) 0) (dispatching letterMail true w i l) w)
+    cast-left : Shows (castMemory ws l) (cond (eqb (cast-refusal l) 0) (dispatching letterMail true w i l) w)
     unfolding castMemory castAnswer isDone
     cast-left =
-        settle ws _ w _ (castAnswer ws l) _ (cast-number l) v
+        settle ws _ w _ (castAnswer ws l) (cast-refusal l)
+        (done-plain (castAnswer ws l) (cast-refusal l) (or-else-small (broadcastRefusal letterMail (cardsOf ws) w) (otherwise 6 (fits ws l)) (broadcast-small letterMail (cardsOf ws) w) (six-small (fits ws l))) (cast-number l)) v
         (λ e. cast-shows ws w z v i l (fits-packs ws l (picked (fits ws l) _ IllSized refl (picked (near ws) _ FarBehind refl e .1) .0)))
 
-    fly-left : i < cardsOf ws
-        → Shows (flyMemory ws i l)
-        (cond (eqb (orElse (flightRefusal letterMail (cardsOf ws) (w .flight (m .task .0))) (otherwise 6 (fits ws l))) 0) (dispatching letterMail false w i l) w)
+    fly-left : i < cardsOf ws → Shows (flyMemory ws i l) (cond (eqb (fly-refusal l) 0) (dispatching letterMail false w i l) w)
     unfolding flyMemory flyAnswer isDone
     fly-left c =
-        settle ws _ w _ (flyAnswer ws l) _ (fly-number l) v
+        settle ws _ w _ (flyAnswer ws l) (fly-refusal l)
+        (done-plain (flyAnswer ws l) (fly-refusal l) (or-else-small (flightRefusal letterMail (cardsOf ws) (w .flight (m .task .0))) (otherwise 6 (fits ws l)) (flight-small letterMail (cardsOf ws) w (w .flight (m .task .0))) (six-small (fits ws l))) (fly-number l)) v
         (λ e. let f = picked (fits ws l) _ IllSized refl e .0 in fly-shows ws w z v i l c (fits-is ws l f .task) (fits-packs ws l f))
 
     pub dispatch-left : Shows (dispatchMemory ws card m to)

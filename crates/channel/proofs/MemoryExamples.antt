@@ -16,11 +16,12 @@ use Rattle.channel.specs.declared.Received.the-variants.{Got}
 use Rattle.automaton.specs.Refusals.{channelRefusal}
 use Rattle.channel.specs.Layout.{cardsOf, tasksOf, registersOf}
 use Rattle.names.specs.Letters.{known}
+use Rattle.names.specs.Results.{resultFrom}
 use Rattle.names.specs.Update.{knownFunction}
 use Rattle.channel.specs.Letters.{addressed, fits}
 use Rattle.channel.specs.Begin.{sizesFit, begun, beginMemory}
 use Rattle.channel.specs.Inbox.{receiveAnswer}
-use Rattle.channel.specs.MemoryCalls.{Call, dispatchCall, takeBroadcastCall, takeSingleCall, receiveCall, memoryAfter, answersAfter, callRefusal, refusalsAfter, RunFollows}
+use Rattle.channel.specs.MemoryCalls.{Call, dispatchCall, takeBroadcastCall, takeSingleCall, receiveCall, memoryAfter, answersAfter, callRefusal, callResult, resultsAfter, RunFollows}
 use Rattle.channel.proofs.ChannelLaw.{channel-follows}
 
 abbrev about : ℕ → ℕ → Body → Message
@@ -64,8 +65,8 @@ module _ (ws : List ℕ) where
       receiveCall (card 1) ∷ takeSingleCall (task 0) ∷ dispatchCall (card 0) only-there 2 ∷ receiveCall (card 0) ∷ takeBroadcastCall (card 0)
       ∷ dispatchCall (card 2) shared 7 ∷ []
 
-  pub k9-held : answersAfter start k9 ≡ 33 ∷ 0 ∷ 0 ∷ 0 ∷ 0 ∷ 0 ∷ []
-  unfolding refusalsAfter callRefusal channelRefusal fits addressed known knownFunction cardsOf tasksOf registersOf beginMemory sizesFit begun several single soleOf sizeOf memberOf total turns each
+  pub k9-held : answersAfter start k9 ≡ 33 ∷ 100 ∷ 0 ∷ 0 ∷ 0 ∷ 0 ∷ []
+  unfolding resultsAfter callResult resultFrom callRefusal channelRefusal fits addressed known knownFunction cardsOf tasksOf registersOf beginMemory sizesFit begun several single soleOf sizeOf memberOf total turns each
   k9-held = follows k9 .answers
 
   -- when card 1 has taken broadcast 1, two deliveries set 7, then 9
@@ -86,8 +87,8 @@ module _ (ws : List ℕ) where
       receiveCall (card 0) ∷ takeSingleCall (task 0) ∷ dispatchCall (card 1) answers 1 ∷ receiveCall (card 1) ∷ takeSingleCall (task 0) ∷ receiveCall (card 1)
       ∷ takeBroadcastCall (card 1) ∷ dispatchCall (card 0) asks 2 ∷ dispatchCall (card 2) shared 7 ∷ []
 
-  pub k10-held : answersAfter start k10 ≡ 33 ∷ 0 ∷ 0 ∷ 0 ∷ 0 ∷ 0 ∷ 0 ∷ 0 ∷ 0 ∷ []
-  unfolding refusalsAfter callRefusal channelRefusal fits addressed known knownFunction cardsOf tasksOf registersOf beginMemory sizesFit begun several single soleOf sizeOf memberOf total turns each
+  pub k10-held : answersAfter start k10 ≡ 33 ∷ 100 ∷ 0 ∷ 0 ∷ 0 ∷ 0 ∷ 0 ∷ 0 ∷ 0 ∷ []
+  unfolding resultsAfter callResult resultFrom callRefusal channelRefusal fits addressed known knownFunction cardsOf tasksOf registersOf beginMemory sizesFit begun several single soleOf sizeOf memberOf total turns each
   k10-held = follows k10 .answers
 
   abbrev k10-taken : List Call

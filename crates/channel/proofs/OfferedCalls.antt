@@ -1,8 +1,7 @@
 -- The four calls for a layer above: on a memory that is well sized and shows a state, a call whose names are in range does what the idealised
--- channel's operation does, and answers its refusal. And the same channel with its letters under other names.
+-- channel's operation does, and answers its refusal, or whether it holds a message. And the same channel with its letters under other names.
 use Prim.Native.Nat.{ℕ, _<_}
-use mathlib.Core.Path.{_≡_, refl, sym, ap, _∙_}
-use mathlib.Core.Logic.{_≢_}
+use mathlib.Core.Path.{_≡_, refl, sym, ap, ap₂, _∙_}
 use mathlib.Core.Bool.{Bool, true, false, cond}
 use mathlib.Core.List.{List}
 use borrow.Author.Tests.{eqb-true, lt-ltb}
@@ -13,11 +12,13 @@ use Rattle.names.specs.declared.Card.{Card}
 use Rattle.names.specs.declared.Task.{Task}
 use Rattle.names.specs.declared.Message.{Message}
 use Rattle.names.specs.declared.Letter.{Letter}
-use Rattle.channel.specs.declared.Answer.the-variants.{Done, BadSize, IllSized, NoTask, NoCard, NoBroadcast, NoneInFlight, FarBehind, Crowded}
+use Rattle.names.specs.Results.{isTaken, resultFrom}
+use Rattle.channel.specs.declared.Answer.the-variants.{Done, Held, BadSize, IllSized, NoTask, NoCard, NoBroadcast, NoneInFlight, FarBehind, Crowded}
 use Rattle.channel.specs.declared.Received.the-variants.{Got}
 use Rattle.automaton.specs.Mail.{Mail}
 use Rattle.automaton.specs.State.{ChannelState, ChannelAction, dispatch, takeBroadcast, takeSingle, deliver, channelStep}
 use Rattle.automaton.specs.Refusals.{dispatchRefusal, takeRefusal, singleRefusal, channelRefusal}
+use Rattle.automaton.specs.Holding.{heldBack, holds}
 use Rattle.channel.specs.Layout.{channelWords, cardsOf, tasksOf}
 use Rattle.channel.specs.Letters.{fits}
 use Rattle.channel.specs.Answers.{answerNumber, receivedNumber}
@@ -27,17 +28,19 @@ use Rattle.channel.specs.TakeSingle.{singleAnswer, singleMemory}
 use Rattle.channel.specs.Dispatch.{letterTo, dispatchAnswer, dispatchMemory}
 use Rattle.channel.specs.Sized.{wellSized}
 use Rattle.channel.specs.Shows.{letterMail, Shows}
+use Rattle.channel.specs.Results.{channelResult}
 use Rattle.automaton.specs.Calls.{done}
-use Rattle.channel.specs.MemoryCalls.{Call, dispatchCall, takeBroadcastCall, takeSingleCall, receiveCall, callNumber, callMemory, actionOf, orElse, absent, unfit, callRefusal, letters, SameSizes, CallFollows}
-use Rattle.channel.proofs.CallLaws.{refused-is, call-follows}
-pub use Rattle.automaton.proofs.RenamedRefusals.{channelRefusal-map}
+use Rattle.channel.specs.MemoryCalls.{Call, dispatchCall, takeBroadcastCall, takeSingleCall, receiveCall, callNumber, callMemory, actionOf, orElse, absent, unfit, callRefusal, callResult, letters, SameSizes, CallFollows}
+use Rattle.channel.proofs.CallLaws.{taken-done, call-follows}
+use Rattle.automaton.specs.Renaming.{Alike, SentAlike, channel-map, action-map}
+use Rattle.automaton.proofs.RenamedRefusals.{channelRefusal-map, holds-map}
 pub use Rattle.automaton.proofs.RenamedSteps.{channelStep-map}
 
 -- the call that is operation x answers n and leaves us
 pub record Passes (ws : List ℕ) (w : ChannelState Letter) (x : ChannelAction Letter) (n : ℕ) (us : List ℕ) : Type 0 where
-  pub number : n ≡ channelRefusal letterMail (cardsOf ws) w x
-  pub shows : n ≡ 0 → Shows us (channelStep letterMail w x)
-  pub untouched : n ≢ 0 → us ≡ ws
+  pub number : n ≡ channelResult letterMail (cardsOf ws) w x
+  pub shows : isTaken n ≡ true → Shows us (channelStep letterMail w x)
+  pub untouched : isTaken n ≡ false → us ≡ ws
   pub sized : wellSized us ≡ true
   pub long : length us ≡ channelWords
   pub sizes : SameSizes us ws
@@ -51,10 +54,10 @@ fine r = go (eqb r 0) refl
 
 module _ (ws : List ℕ) (w : ChannelState Letter) (long : length ws ≡ channelWords) (ok : wellSized ws ≡ true) (v : Shows ws w) where
   passes : (c : Call) → absent ws (actionOf c) ≡ 0 → unfit ws (actionOf c) ≡ 0 → Passes ws w (actionOf c) (callNumber ws c) (callMemory ws c)
-  unfolding callRefusal
+  unfolding callRefusal callResult channelResult
   passes c there fit = record {
-    number = k .number ∙ rw (there, fit) (fine _);
-    shows = λ e. let d : done (letters ws) w (actionOf c) ≡ true = refused-is ws w (actionOf c) ∙ ap (λ r. eqb r 0) (sym (k .number) ∙ e) in rw d at (k .shows);
+    number = k .number ∙ ap (λ r. resultFrom r (holds letterMail w (actionOf c))) (rw (there, fit) (fine _));
+    shows = λ e. let d : done (letters ws) w (actionOf c) ≡ true = sym (taken-done ws w (actionOf c)) ∙ ap isTaken (sym (k .number)) ∙ e in rw d at (k .shows);
     untouched = k .untouched;
     sized = k .sized;
     long = k .long;
@@ -81,26 +84,36 @@ module _ (ws : List ℕ) (w : ChannelState Letter) (long : length ws ≡ channel
   unfolding callNumber callMemory
   receive-passes card h = passes (receiveCall card) (rw (lt-ltb (card .0) (cardsOf ws) h)) refl
 
--- ---- the refusals, operation by operation
+-- ---- the results, under other names and operation by operation
+
+module _ {M N : Type 0} (h : M → N) (a : Mail M) (b : Mail N) (r : Alike h a b) (cards : ℕ) where
+  pub channelResult-map : (w : ChannelState M) → SentAlike h a b w → (x : ChannelAction M)
+      → channelResult b cards (channel-map h w) (action-map h x) ≡ channelResult a cards w x
+  unfolding channelResult
+  channelResult-map w u x = ap₂ resultFrom (channelRefusal-map h a b r cards w u x) (holds-map h a b r cards w x)
 
 module _ {M : Type 0} (mail : Mail M) (cards : ℕ) (w : ChannelState M) where
-  pub dispatch-refusal : (i : ℕ) (m : M) → channelRefusal mail cards w (dispatch i m) ≡ dispatchRefusal mail cards w m
-  unfolding channelRefusal
-  dispatch-refusal i m = refl
+  pub dispatch-result : (i : ℕ) (m : M) → channelResult mail cards w (dispatch i m) ≡ resultFrom (dispatchRefusal mail cards w m) false
+  unfolding channelResult channelRefusal
+  dispatch-result i m = refl
 
-  pub take-broadcast-refusal : (i : ℕ) → channelRefusal mail cards w (takeBroadcast i) ≡ takeRefusal mail cards w i (nth (w .sent) (w .taken i))
-  unfolding channelRefusal
-  take-broadcast-refusal i = refl
+  pub take-broadcast-result : (i : ℕ) → channelResult mail cards w (takeBroadcast i) ≡ resultFrom (takeRefusal mail cards w i (nth (w .sent) (w .taken i))) false
+  unfolding channelResult channelRefusal
+  take-broadcast-result i = refl
 
-  pub take-single-refusal : (c : ℕ) → channelRefusal mail cards w (takeSingle c) ≡ singleRefusal mail cards w (w .flight c)
-  unfolding channelRefusal
-  take-single-refusal c = refl
+  pub take-single-result : (c : ℕ) → channelResult mail cards w (takeSingle c) ≡ resultFrom (singleRefusal mail cards w (w .flight c)) (heldBack mail w (w .flight c))
+  unfolding channelResult channelRefusal
+  take-single-result c = refl
 
 -- ---- the numbers of the answers
 
 pub done-number : answerNumber Done ≡ 0
 unfolding answerNumber
 done-number = refl
+
+pub held-number : answerNumber Held ≡ 100
+unfolding answerNumber
+held-number = refl
 
 pub bad-size-number : answerNumber BadSize ≡ 3
 unfolding answerNumber
@@ -134,7 +147,7 @@ pub crowded-number : answerNumber Crowded ≡ 35
 unfolding answerNumber
 crowded-number = refl
 
-pub ruleset numbers = (done-number, bad-size-number, ill-sized-number, no-task-number, no-card-number, no-broadcast-number, none-in-flight-number, far-behind-number, crowded-number)
+pub ruleset numbers = (done-number, held-number, bad-size-number, ill-sized-number, no-task-number, no-card-number, no-broadcast-number, none-in-flight-number, far-behind-number, crowded-number)
 
 pub got-number : (m : Message) → receivedNumber (Got m) ≡ 0
 unfolding receivedNumber

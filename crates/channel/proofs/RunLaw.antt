@@ -11,7 +11,7 @@ use Rattle.automaton.specs.State.{ChannelState, ChannelAction, dispatch, takeBr
 use Rattle.channel.specs.Sized.{wellSized}
 use Rattle.channel.specs.Shows.{letterMail, Shows}
 use Rattle.automaton.specs.Calls.{done, calls}
-use Rattle.channel.specs.MemoryCalls.{Call, callNumber, callMemory, memoryAfter, answersAfter, actionOf, handedUp, absent, unfit, callRefusal, letters, refusalsAfter, SameSizes, RunFollows, actionsOf, stateAfter}
+use Rattle.channel.specs.MemoryCalls.{Call, callNumber, callMemory, memoryAfter, answersAfter, actionOf, handedUp, absent, unfit, callRefusal, callResult, letters, resultsAfter, SameSizes, RunFollows, actionsOf, stateAfter}
 use Rattle.channel.proofs.Receiving.{receive-answer}
 use Rattle.channel.proofs.WellSizedParts.{fit-of, same-cards, same-tasks, fits-same}
 use Rattle.channel.proofs.FitRelease.{sizes-trans}
@@ -27,6 +27,8 @@ use Rattle.automaton.specs.AtRest.{GoesToCards}
 use Rattle.names.specs.CardSet.{several, soleOf, memberOf}
 use Rattle.channel.specs.Letters.{fits}
 use Rattle.automaton.specs.Refusals.{otherwise}
+use Rattle.automaton.specs.Holding.{holds}
+use Rattle.names.specs.Results.{resultFrom}
 use Rattle.lists.specs.Tests.{clash, and-snd}
 use borrow.Author.Tests.{eqb-true, ltb-true}
 use native.Mathlib.Omega.{arith}
@@ -39,6 +41,10 @@ refusal-sizes us ms s w (dispatch i l) = rw (same-cards us ms s, fits-same us ms
 refusal-sizes us ms s w (takeBroadcast i) = rw (same-cards us ms s)
 refusal-sizes us ms s w (takeSingle t) = rw (same-cards us ms s, same-tasks us ms s)
 refusal-sizes us ms s w (deliver i) = rw (same-cards us ms s)
+
+result-sizes : (us ms : List ℕ) → SameSizes us ms → (w : ChannelState Letter) (x : ChannelAction Letter) → callResult us w x ≡ callResult ms w x
+unfolding callResult
+result-sizes us ms s w x = ap (λ r. resultFrom r (holds letterMail w x)) (refusal-sizes us ms s w x)
 
 done-sizes : (us ms : List ℕ) → SameSizes us ms → (w : ChannelState Letter) (x : ChannelAction Letter) → done (letters us) w x ≡ done (letters ms) w x
 done-sizes us ms s w x = refused-is us w x ∙ ap (λ r. eqb r 0) (refusal-sizes us ms s w x) ∙ sym (refused-is ms w x)
@@ -91,8 +97,8 @@ module _ (ms : List ℕ) (long : length ms ≡ channelWords) (ok : wellSized ms 
             shows = rw (← done-sizes us ms (u .sizes) w (actionOf c)) (k .shows);
           }
 
-  numbers : (cs : List Call) → answersAfter ms cs ≡ refusalsAfter ms (actionsOf cs)
-  unfolding answersAfter refusalsAfter
+  numbers : (cs : List Call) → answersAfter ms cs ≡ resultsAfter ms (actionsOf cs)
+  unfolding answersAfter resultsAfter
   numbers [] = refl
   numbers (c ∷ cs) = ap₂ (λ (a : ℕ) (b : List ℕ). a ∷ b) (one (upto cs)) (numbers cs)
     where
@@ -102,8 +108,8 @@ module _ (ms : List ℕ) (long : length ms ≡ channelWords) (ok : wellSized ms 
       w : ChannelState Letter
       w = stateAfter ms cs
 
-      one : Upto ms us w → callNumber us c ≡ callRefusal ms w (actionOf c)
-      one u = call-follows us w (u .long) (u .sized) (u .shows) c .number ∙ refusal-sizes us ms (u .sizes) w (actionOf c)
+      one : Upto ms us w → callNumber us c ≡ callResult ms w (actionOf c)
+      one u = call-follows us w (u .long) (u .sized) (u .shows) c .number ∙ result-sizes us ms (u .sizes) w (actionOf c)
 
   pub run-follows : (cs : List Call) → RunFollows ms cs
   unfolding takenBy

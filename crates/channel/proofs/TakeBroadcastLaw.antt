@@ -24,8 +24,9 @@ use Rattle.channel.specs.Answers.{answerNumber, isDone}
 use Rattle.channel.specs.TakeBroadcast.{readyAt, releasableOf, broadcastAt, broadcastsOf, nextLetter, nextThere, roomAnswer, takeAnswer, takeMemory}
 use Rattle.channel.specs.Shows.{letterMail, taggedAt, inboxOf, heldOf, Shows}
 use Rattle.automaton.proofs.ReleasedLists.{released-count}
+use Rattle.automaton.proofs.RefusalsSmall.{cond-small, take-small}
 use Rattle.channel.proofs.SizedFacts.{Sized}
-use Rattle.channel.proofs.AnswerNumbers.{above, picked, passed, settle}
+use Rattle.channel.proofs.AnswerNumbers.{done-plain, above, picked, passed, settle}
 use Rattle.channel.proofs.Taking.{next-is, take-shows}
 
 -- ---- the counts
@@ -116,7 +117,10 @@ module _ (ws : List ℕ) (w : ChannelState Letter) (z : Sized ws) (v : Shows ws 
   i = card .0
 
   -- 14, 31, 35, 6 as the idealised step has them
-  pub take-number : answerNumber (takeAnswer ws card) ≡ cond (ltb i (cardsOf ws)) (takeRefusal letterMail (cardsOf ws) w i (nth (w .sent) (w .taken i))) 14
+  abbrev refusal : ℕ
+  refusal = cond (ltb i (cardsOf ws)) (takeRefusal letterMail (cardsOf ws) w i (nth (w .sent) (w .taken i))) 14
+
+  pub take-number : answerNumber (takeAnswer ws card) ≡ refusal
   unfolding takeAnswer answerNumber
   take-number = go (ltb i (cardsOf ws)) refl
     where
@@ -134,9 +138,11 @@ module _ (ws : List ℕ) (w : ChannelState Letter) (z : Sized ws) (v : Shows ws 
       go true e = here (ltb-true i (cardsOf ws) e) (ltb (takenOf ws i) (madeOf ws)) refl
       go false e = refl
 
-  pub take-left : Shows (takeMemory ws card)
-      (cond (eqb (cond (ltb i (cardsOf ws)) (takeRefusal letterMail (cardsOf ws) w i (nth (w .sent) (w .taken i))) 14) 0) (taking letterMail w i (nth (w .sent) (w .taken i))) w)
+  small : refusal < 100
+  small = cond-small (ltb i (cardsOf ws)) _ 14 (take-small letterMail (cardsOf ws) w i (nth (w .sent) (w .taken i))) (omega arith)
+
+  pub take-left : Shows (takeMemory ws card) (cond (eqb refusal 0) (taking letterMail w i (nth (w .sent) (w .taken i))) w)
   unfolding takeMemory
   take-left =
-      settle ws _ w _ (takeAnswer ws card) _ take-number v
+      settle ws _ w _ (takeAnswer ws card) refusal (done-plain (takeAnswer ws card) refusal small take-number) v
       (λ e. let t = took ws z card e in rw (next-is ws w z v i (t .there) (t .more)) (take-shows ws w z v i (t .there) (t .more) (t .room)))

@@ -13,4 +13,5 @@ pub mod BroadcastRing
 pub mod BehindExamples
 -- What a memory shows of the idealised state, and what is claimed of any list of calls on it
 pub mod Shows
+pub mod Results
 pub mod MemoryCalls

@@ -2,7 +2,6 @@
 -- contracts cite, and which operation of the idealised channel over letters it is. `CallFollows` and `RunFollows` say that the two keep step.
 use Prim.Native.Nat.{ℕ}
 use mathlib.Core.Path.{_≡_}
-use mathlib.Core.Logic.{_≢_}
 use mathlib.Core.Bool.{true, false, cond, _&&_}
 use mathlib.Core.List.{List, [], _∷_, map}
 use lib.Dec.{eqb, ltb}
@@ -15,8 +14,10 @@ use Rattle.channel.specs.declared.Received.{Received}
 use Rattle.channel.specs.declared.Received.the-variants.{Got, NoSuchCard, Empty}
 use Rattle.automaton.specs.State.{ChannelState, initialChannel, ChannelAction, dispatch, takeBroadcast, takeSingle, deliver, channelStep}
 use Rattle.automaton.specs.Refusals.{otherwise, channelRefusal}
+use Rattle.automaton.specs.Holding.{holds}
 use Rattle.channel.specs.Layout.{channelWords, cardsWord, tasksWord, registersWord, cardsOf, tasksOf, registersOf, madeOf, takenBy}
 use Rattle.names.specs.Letters.{letterAt}
+use Rattle.names.specs.Results.{isTaken, resultFrom}
 use Rattle.channel.specs.Letters.{fits}
 use Rattle.channel.specs.Answers.{answerNumber, receivedNumber}
 use Rattle.channel.specs.Begin.{sizesFit, beginAnswer, beginMemory}
@@ -37,7 +38,7 @@ pub data Call : Type 0 where
 
 -- ---- on a memory
 
--- the number of the answer; 0: it is done
+-- the number of the answer; 0 or 100: it is done
 unfoldable pub callNumber : List ℕ → Call → ℕ
 callNumber ws (dispatchCall card m to) = answerNumber (dispatchAnswer ws card m to)
 callNumber ws (takeBroadcastCall card) = answerNumber (takeAnswer ws card)
@@ -97,6 +98,10 @@ module _ (ms : List ℕ) where
   unfoldable pub callRefusal : ChannelState Letter → ChannelAction Letter → ℕ
   callRefusal w x = orElse (absent x) (orElse (channelRefusal letterMail (cardsOf ms) w x) (unfit x))
 
+  -- and its result: 100 where it is done and holds a message, else 0 (RULES 5.8)
+  unfoldable pub callResult : ChannelState Letter → ChannelAction Letter → ℕ
+  callResult w x = resultFrom (callRefusal w x) (holds letterMail w x)
+
   -- the idealised channel that the memory is one of
   abbrev pub letters : Setup Letter
   letters = record {
@@ -106,10 +111,10 @@ module _ (ms : List ℕ) where
     blank = record { from = 0; body = letterAt [] 0 };
   }
 
-  -- the refusals of a list of operations, newest first
-  unfoldable pub refusalsAfter : List (ChannelAction Letter) → List ℕ
-  refusalsAfter [] = []
-  refusalsAfter (x ∷ xs) = callRefusal (calls letters xs) x ∷ refusalsAfter xs
+  -- the results of a list of operations, newest first
+  unfoldable pub resultsAfter : List (ChannelAction Letter) → List ℕ
+  resultsAfter [] = []
+  resultsAfter (x ∷ xs) = callResult (calls letters xs) x ∷ resultsAfter xs
 
 -- the same calls on the idealised channel, and the state after them
 abbrev pub actionsOf : List Call → List (ChannelAction Letter)
@@ -126,12 +131,12 @@ pub record SameSizes (us ws : List ℕ) : Type 0 where
 
 -- One call on a memory that is well sized and shows the idealised state w.
 pub record CallFollows (ws : List ℕ) (w : ChannelState Letter) (c : Call) : Type 0 where
-  pub number : callNumber ws c ≡ callRefusal ws w (actionOf c)
+  pub number : callNumber ws c ≡ callResult ws w (actionOf c)
   pub shows : Shows (callMemory ws c) (cond (done (letters ws) w (actionOf c)) (channelStep letterMail w (actionOf c)) w)
   pub sized : wellSized (callMemory ws c) ≡ true
   pub long : length (callMemory ws c) ≡ channelWords
   pub sizes : SameSizes (callMemory ws c) ws
-  pub untouched : callNumber ws c ≢ 0 → callMemory ws c ≡ ws
+  pub untouched : isTaken (callNumber ws c) ≡ false → callMemory ws c ≡ ws
 
 -- `begin` on any memory.
 pub record BeginFollows (ws : List ℕ) (cards tasks registers : ℕ) : Type 0 where
@@ -150,7 +155,7 @@ pub record RunFollows (ms : List ℕ) (cs : List Call) : Type 0 where
   pub long : length (memoryAfter ms cs) ≡ channelWords
   pub sizes : SameSizes (memoryAfter ms cs) ms
   pub shows : Shows (memoryAfter ms cs) (stateAfter ms cs)
-  pub answers : answersAfter ms cs ≡ refusalsAfter ms (actionsOf cs)
+  pub answers : answersAfter ms cs ≡ resultsAfter ms (actionsOf cs)
   pub hands : (card : Card) → receiveAnswer (memoryAfter ms cs) card ≡ cond (ltb (card .0) (cardsOf ms)) (handedUp ((stateAfter ms cs) .inbox (card .0))) NoSuchCard
   pub taken : (i : ℕ) → takenBy (memoryAfter ms cs) i ≡ cond (ltb i (cardsOf ms)) ((stateAfter ms cs) .taken i) 0
   pub made : madeOf (memoryAfter ms cs) ≡ length ((stateAfter ms cs) .sent)

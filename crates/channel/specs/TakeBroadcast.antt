@@ -10,7 +10,7 @@ use Rattle.names.specs.declared.Card.{Card}
 use Rattle.names.specs.declared.Letter.{Letter}
 use Rattle.names.specs.declared.Packet.{Packet}
 use Rattle.channel.specs.declared.Answer.{Answer}
-use Rattle.channel.specs.declared.Answer.the-variants.{NoCard, NoBroadcast, Crowded}
+use Rattle.channel.specs.declared.Answer.the-variants.{Done, NoCard, NoBroadcast, Crowded}
 use Rattle.channel.specs.Answers.{isDone, unlessFull}
 use Rattle.channel.specs.Layout.{takenWord, heldWord, cardsOf, madeOf, takenOf, countOf, heldCountOf, placeOf, heldBlock, broadcastBlock}
 use Rattle.names.specs.Letters.{letterOf, packetAt, letterAt, tagAt, marked}
@@ -87,8 +87,8 @@ nextThere ws i = thereAt ws i (takenOf ws i + 1)
 unfoldable pub roomAnswer : List ℕ → ℕ → ℕ → Bool → Answer
 roomAnswer ws i n there =
     cond there
-    (cond (leb 32 (broadcastsOf ws i)) Crowded (unlessFull (ltb 48 (countOf ws i + releasableOf ws i n + 1))))
-    (unlessFull (ltb 48 (countOf ws i + releasableOf ws i n)))
+    (cond (leb 32 (broadcastsOf ws i)) Crowded (unlessFull (ltb 48 (countOf ws i + releasableOf ws i n + 1)) Done))
+    (unlessFull (ltb 48 (countOf ws i + releasableOf ws i n)) Done)
 
 -- card i takes broadcast n, where there is room
 abbrev pub nextAnswer : List ℕ → ℕ → ℕ → Answer

@@ -8,7 +8,7 @@ use Rattle.names.specs.declared.Task.{Task}
 use Rattle.names.specs.declared.Letter.{Letter}
 use Rattle.names.specs.declared.Packet.{Packet}
 use Rattle.channel.specs.declared.Answer.{Answer}
-use Rattle.channel.specs.declared.Answer.the-variants.{IllSized, NoTask, NoneInFlight}
+use Rattle.channel.specs.declared.Answer.the-variants.{Done, Held, IllSized, NoTask, NoneInFlight}
 use Rattle.channel.specs.Answers.{isDone, unlessFull}
 use Rattle.channel.specs.Layout.{heldWord, tasksOf, takenOf, countOf, heldCountOf, heldBlock, flightBlock}
 use Rattle.names.specs.CardSet.{single, soleOf}
@@ -49,9 +49,9 @@ landed ws t i p tag joins =
     let us : List ℕ = set ws (flightBlock t) 0 in
     cond joins (pushed us i p) (heldMore us i p tag)
 
--- 6: a 49th message in the inbox (RULES 7.2), or a 17th held (7.3)
+-- whether it is held, which the answer says; 6: a 49th message in the inbox (RULES 7.2), or a 17th held (7.3)
 unfoldable pub landAnswer : List ℕ → ℕ → Bool → Answer
-landAnswer ws i joins = cond joins (unlessFull (leb 48 (countOf ws i))) (unlessFull (leb 16 (heldCountOf ws i)))
+landAnswer ws i joins = cond joins (unlessFull (leb 48 (countOf ws i)) Done) (unlessFull (leb 16 (heldCountOf ws i)) Held)
 
 -- of task t's message in flight; 6 also where it has not one destination
 abbrev pub reachAnswer : List ℕ → ℕ → Answer

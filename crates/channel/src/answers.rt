@@ -8,6 +8,7 @@ pub(crate) fn done(answer: Answer) -> bool
 {
     match answer {
         Answer::Done => true,
+        Answer::Held => true,
         Answer::BadSize => false,
         Answer::IllSized => false,
         Answer::NoTask => false,
@@ -19,12 +20,12 @@ pub(crate) fn done(answer: Answer) -> bool
     }
 }
 
-// 6 where a queue is full.
-pub(crate) fn unless_full(full: bool) -> Answer
-    ensures { λ r. ⌜ r ≡ unlessFull full ⌝ }
+// 6 where a queue is full, else this.
+pub(crate) fn unless_full(full: bool, answer: Answer) -> Answer
+    ensures { λ r. ⌜ r ≡ unlessFull full answer ⌝ }
 {
     if full {
         return Answer::IllSized;
     }
-    Answer::Done
+    answer
 }

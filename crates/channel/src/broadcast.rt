@@ -164,9 +164,9 @@ fn room(memory: &[u32; WORDS], card: Card, n: BroadcastNumber, there: bool) -> A
         if crowded(memory, card) {
             return Answer::Crowded;
         }
-        return unless_full(48 < count + 1);
+        return unless_full(48 < count + 1, Answer::Done);
     }
-    unless_full(48 < count)
+    unless_full(48 < count, Answer::Done)
 }
 
 // A card takes broadcast n, where there is room.

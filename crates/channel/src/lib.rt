@@ -27,9 +27,10 @@ pub use send::dispatch;
 pub use single::take_single;
 pub use sized::well_sized;
 
-// What a call answers; `answerNumber` gives the number of each (RULES 8.2).
+// What a call answers; `answerNumber` gives the number of each (RULES 5.8, 8.2). `Held` is done too: the single message taken is held.
 pub enum Answer {
     Done,
+    Held,
     BadSize,
     IllSized,
     NoTask,

@@ -84,15 +84,15 @@ fn land(
     hold(memory, card, packet, tag);
 }
 
-// Whether a card has room for a message that joins its inbox, or is held.
+// Whether a card has room for a message, and what becomes of it there: it joins the inbox, or is held.
 fn may_land(memory: &[u32; WORDS], card: Card, joins: bool) -> Answer
     requires { ⌜ card .0 < 8 ⌝ }
     ensures { λ r. ⌜ r ≡ landAnswer (now (memory .entry)) (card .0) joins ⌝ }
 {
     if joins {
-        return unless_full(48 <= count_of(memory, card));
+        return unless_full(48 <= count_of(memory, card), Answer::Done);
     }
-    unless_full(16 <= held_of(memory, card))
+    unless_full(16 <= held_of(memory, card), Answer::Held)
 }
 
 // A task's message in flight reaches its destination, where there is room.

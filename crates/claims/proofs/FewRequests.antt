@@ -8,14 +8,16 @@ use mathlib.Core.Logic.{inl, inr, _⊎_}
 use mathlib.Core.Path.{ap, refl, _∙_, _≡_}
 use native.Mathlib.Omega.{arith}
 use Rattle.lists.specs.Histories.{In, here, there}
+use Rattle.names.proofs.Results.{not-zero-refused}
 use Rattle.names.specs.Placement.{Placement, home}
 use Rattle.names.specs.declared.Body.{Body}
 use Rattle.names.specs.declared.Body.the-variants.{ReadDo, ReadReply, UpdateDo, UpdateReply}
 use Rattle.claims.proofs.RefusalExact.{misformed-small, refusal-exact}
+use Rattle.claims.proofs.Results.{refused-number}
 use Rattle.claims.specs.Command.{Command}
 use Rattle.claims.specs.Numbers.{Comes, Misformed, alone-here, busy-read, busy-update, copy-here, crowded, far-behind, held-full, inbox-full-single, inbox-full-take, last-broadcast, last-read, last-update, no-broadcast, no-copy, no-holder, no-letter, no-message, nobody, none-in-flight, not-alone, not-asking, not-done, not-read, not-update, outbox-full-read, outbox-full-reply, outbox-full-update, second-in-flight}
 use Rattle.claims.specs.Published.{Doing, Letter, Published, askingRead, askingUpdate, commandRefusal, delivering, dispatching, doneRead, doneUpdate, effect, performing, quiet, receiving, sendingRead, sendingUpdate, waiting}
-use Rattle.claims.specs.PublishedRun.{Answer, afterDecoded, answerDecoded, answersFrom, decodedRefusal}
+use Rattle.claims.specs.PublishedRun.{Answer, afterDecoded, answerDecoded, answersFrom}
 use Rattle.claims.specs.Steps.{Decoded, RawStep, bad, decode, good}
 use Rattle.claims.specs.Command as K
 
@@ -109,12 +111,8 @@ module _ (P : Placement) where
     comes-23 (held-full x q p l) e = absurd (omega arith)
     comes-23 (outbox-full-reply m r q p l) e = absurd (omega arith)
 
-    result-is : (d : Decoded) → answerDecoded P s d .result ≡ decodedRefusal P s d
-    result-is (bad n) = refl
-    result-is (good c) = refl
-
     all-taken : (a : RawStep) → answerDecoded P s (decode P a) .result ≡ 23 → 65535 ≤ s .requests
-    all-taken a e = go (refusal-exact P a s 23 (λ z. omega arith) .0 (rw (← result-is (decode P a)) e))
+    all-taken a e = go (refusal-exact P a s 23 (λ z. omega arith) .0 (refused-number P s (decode P a) 23 (not-zero-refused 23 (omega arith) (λ z. omega arith)) .0 e))
       where
         go : Misformed P a 23 ⊎ ((c : Command) × (decode P a ≡ good c) × Comes P s 23 c) → 65535 ≤ s .requests
         go (inl m) = let r = misformed-small P a m in absurd (omega arith)

@@ -12,10 +12,11 @@ use Rattle.automaton.specs.Renaming.{Alike, SentAlike, channel-map}
 use Rattle.lists.specs.Maps.{map-pop, map-push}
 use Rattle.names.specs.Placement.{Placement}
 use Rattle.registers.specs.Layer.{Event, Msg, State, Status, Values, World, answers, ask, base, from, next, reply, unvalued}
-use Rattle.claims.proofs.Renaming.{refusal-map}
+use Rattle.claims.proofs.Renaming.{refusal-map, result-map, sight-map}
 use Rattle.claims.specs.Command.{Command}
 use Rattle.claims.specs.Ledger.{Action, Ledger, Op, about, answeredOf, headed, ledger, ledgerMail, ledgerRefusal, noted, notes, decodedNumber, paper, paperFrom, plan, sightOf, stageOf, step, telling, world, worldOf}
 use Rattle.claims.specs.Refusals.{refusal}
+use Rattle.claims.specs.Results.{result}
 use Rattle.claims.specs.Steps.{Decoded, RawStep, bad, decode, good}
 use Rattle.automaton.specs.State as C
 use Rattle.registers.specs.Layer as R
@@ -187,11 +188,20 @@ module _ {U : Values} (P : Placement) where
     answered-alike i (ask k) = refl
     answered-alike i (reply k v) = refl
 
+    same-sight : sightOf P (forgetLedger b) ≡ sight-map forget (sightOf P b)
+    same-sight =
+        ap (λ g. record { requests = length (b .ops); stage = g; out = λ i. map forget (b .layer .out i); channel = channel-map forget (b .channel) })
+        (fun-ext (λ t. same-stage (b .ops) (b .layer .status t)))
+
     pub refusal-forget : (c : Command) → ledgerRefusal P (forgetLedger b) c ≡ ledgerRefusal P b c
     refusal-forget c =
-        ap (λ g. refusal P (ledgerMail P (forgetLedger b)) (answeredOf (world P (forgetLedger b))) (record { requests = length (b .ops); stage = g; out = λ i. map forget (b .layer .out i); channel = channel-map forget (b .channel) }) c)
-        (fun-ext (λ t. same-stage (b .ops) (b .layer .status t)))
+        ap (λ s. refusal P (ledgerMail P (forgetLedger b)) (answeredOf (world P (forgetLedger b))) s c) same-sight
         ∙ refusal-map P forget (ledgerMail P b) (ledgerMail P (forgetLedger b)) forget-alike (answeredOf (world P b)) (answeredOf (world P (forgetLedger b))) (sightOf P b) sent-alike (λ i m r e. answered-alike i m) c
+
+    pub result-forget : (c : Command) → decodedNumber P (forgetLedger b) (good c) ≡ decodedNumber P b (good c)
+    result-forget c =
+        ap (λ s. result P (ledgerMail P (forgetLedger b)) (answeredOf (world P (forgetLedger b))) s c) same-sight
+        ∙ result-map P forget (ledgerMail P b) (ledgerMail P (forgetLedger b)) forget-alike (answeredOf (world P b)) (answeredOf (world P (forgetLedger b))) (sightOf P b) sent-alike (λ i m r e. answered-alike i m) c
 
     about-forget : (s : Status U) (f : ℕ → Action U) → about (forgetStatus s) (λ k. forgetAction (f k)) ≡ Option·map forgetAction (about s f)
     about-forget R.quiet f = refl
@@ -257,4 +267,4 @@ module _ (U : Values) (P : Placement) where
   -- the numbers are the same
   pub number-forget : (l : List RawStep) (d : Decoded) → decodedNumber P (ledger P (paper {U = unvalued} P l)) d ≡ decodedNumber P (ledger P (paper {U = U} P l)) d
   number-forget l (bad n) = refl
-  number-forget l (good c) = ap (λ b. ledgerRefusal P b c) (book-forget l) ∙ refusal-forget P (ledger P (paper P l)) c
+  number-forget l (good c) = ap (λ b. decodedNumber P b (good c)) (book-forget l) ∙ result-forget P (ledger P (paper P l)) c

@@ -1,4 +1,4 @@
--- The published run answers each step with the ledger's number: 0 if the ledger takes it, else the refusal.
+-- The published run answers each step with the ledger's result.
 use Prim.Native.Nat.{suc, zero, ℕ}
 use lib.ListN.{drop, length, take}
 use mathlib.Core.List.{List, [], _++_, _∷_}

@@ -7,6 +7,7 @@ use Rattle.lists.specs.Every.{each}
 use Rattle.lists.specs.Loops.{total, turns}
 use Rattle.names.specs.CardSet.{justOf, memberOf, several, single, sizeOf, soleOf}
 use Rattle.names.specs.Placement.{homePlaced, homesPlaced, placed, placementRefusal, registerPlaced, registersPlaced, sized, sizesInRange}
+use Rattle.names.specs.Results.{resultFrom}
 use Rattle.names.specs.Update.{knownFunction, largerOf, raised, sumOf, updated}
 use Rattle.claims.specs.NamedRuns.{k10-held, k9, k9-held, results, step, three, tiny}
 use Rattle.claims.specs.PublishedRun.{publishedRun}
@@ -49,14 +50,23 @@ k10-tag : map (λ x. x .mark) ((publishedRun three k10-held .0) .channel .held 0
 unfolding decode known unnamedZero taskThere registerThere cardThere functionThere knownFunction namesTask namesCard namesRegister namesChosen namesFunction operand commandOf each memberOf several single sizeOf soleOf justOf total turns updated raised largerOf sumOf
 k10-tag = refl
 
+-- so step 8 answers 100, in K9 the last one and in K10 the second of two
+k9-says : results three k9-held ≡ 0 ∷ 0 ∷ 0 ∷ 0 ∷ 0 ∷ 0 ∷ 0 ∷ 0 ∷ 0 ∷ 0 ∷ 0 ∷ 100 ∷ []
+unfolding resultFrom decode known unnamedZero taskThere registerThere cardThere functionThere knownFunction namesTask namesCard namesRegister namesChosen namesFunction operand commandOf each memberOf several single sizeOf soleOf justOf total turns updated raised largerOf sumOf
+k9-says = refl
+
+k10-says : results three k10-held ≡ 0 ∷ 0 ∷ 0 ∷ 0 ∷ 0 ∷ 0 ∷ 0 ∷ 0 ∷ 0 ∷ 0 ∷ 0 ∷ 100 ∷ []
+unfolding resultFrom decode known unnamedZero taskThere registerThere cardThere functionThere knownFunction namesTask namesCard namesRegister namesChosen namesFunction operand commandOf each memberOf several single sizeOf soleOf justOf total turns updated raised largerOf sumOf
+k10-says = refl
+
 -- unknown codes, an unnamed byte, byte 3, absent task and card, unknown functions, an absent task before an absent card, an absent chosen
 -- card; the last function that there is
 misformed-results : results tiny (step 0 [] ∷ step 11 [] ∷ step 3 (0 ∷ 1 ∷ []) ∷ step 2 (0 ∷ 0 ∷ 1 ∷ 1 ∷ []) ∷ step 3 (1 ∷ []) ∷ step 6 (1 ∷ []) ∷ step 2 (0 ∷ 0 ∷ 6 ∷ []) ∷ step 2 (0 ∷ 0 ∷ 0 ∷ [])
     ∷ step 4 (1 ∷ 1 ∷ []) ∷ step 4 (0 ∷ 1 ∷ []) ∷ step 2 (0 ∷ 0 ∷ 5 ∷ []) ∷ []) ≡ 10 ∷ 10 ∷ 11 ∷ 11 ∷ 12 ∷ 14 ∷ 15 ∷ 15 ∷ 12 ∷ 14 ∷ 0 ∷ []
-unfolding decode known unnamedZero taskThere registerThere cardThere functionThere knownFunction namesTask namesCard namesRegister namesChosen namesFunction operand commandOf each memberOf several single sizeOf soleOf justOf total turns updated raised largerOf sumOf
+unfolding resultFrom decode known unnamedZero taskThere registerThere cardThere functionThere knownFunction namesTask namesCard namesRegister namesChosen namesFunction operand commandOf each memberOf several single sizeOf soleOf justOf total turns updated raised largerOf sumOf
 misformed-results = refl
 
 -- nothing there
 empty-results : results tiny (step 6 (0 ∷ []) ∷ step 7 (0 ∷ []) ∷ step 8 (0 ∷ []) ∷ step 9 (0 ∷ []) ∷ step 10 (0 ∷ []) ∷ step 3 (0 ∷ []) ∷ []) ≡ 30 ∷ 31 ∷ 32 ∷ 33 ∷ 21 ∷ 21 ∷ []
-unfolding decode known unnamedZero taskThere registerThere cardThere functionThere knownFunction namesTask namesCard namesRegister namesChosen namesFunction operand commandOf each memberOf several single sizeOf soleOf justOf total turns updated raised largerOf sumOf
+unfolding resultFrom decode known unnamedZero taskThere registerThere cardThere functionThere knownFunction namesTask namesCard namesRegister namesChosen namesFunction operand commandOf each memberOf several single sizeOf soleOf justOf total turns updated raised largerOf sumOf
 empty-results = refl

@@ -17,6 +17,7 @@ use Rattle.lists.specs.Histories.{In, here}
 use Rattle.lists.specs.Maps.{length-filter-map, map-head, map-some}
 use Rattle.lists.specs.Queues.{push}
 use Rattle.lists.specs.Tests.{and-fst, eqb-refl}
+use Rattle.names.proofs.Results.{not-zero-refused}
 use Rattle.names.specs.CardSet.{memberOf, several, soleOf}
 use Rattle.names.specs.Placement.{Placement, copy, home, placementRefusal, tasks}
 use Rattle.registers.specs.Layer.{Msg, unvalued}
@@ -29,9 +30,10 @@ use Rattle.claims.proofs.NumbersMean.{not-crowded}
 use Rattle.claims.proofs.OnTheWay.{broadcasts-few, flight-free, flight-task, held-short, taken-few}
 use Rattle.claims.proofs.Range.{Small, small}
 use Rattle.claims.proofs.RefusalExact.{misformed-small, refusal-exact}
+use Rattle.claims.proofs.Results.{refused-number}
 use Rattle.claims.proofs.Room.{asks-read, asks-update, held-16, inbox-48, number-left, outbox-16, reply-room, send-room}
 use Rattle.claims.proofs.Forgetting.{book-forget, forget, forget-alike, forgetLedger, number-forget}
-use Rattle.claims.proofs.Shown.{alike, answered-alike, numbers, same-refusal, showMsg, shown}
+use Rattle.claims.proofs.Shown.{alike, answered-alike, numbers, same-result, showMsg, shown}
 use Rattle.claims.proofs.Steady.{Steady, steady}
 use Rattle.claims.proofs.Taken.{executes}
 use Rattle.claims.proofs.Together.{together}
@@ -40,7 +42,7 @@ use Rattle.claims.specs.Ledger.{Action, decodedNumber, ledger, ledgerMai
 use Rattle.claims.specs.Limits.{WithinLimits}
 use Rattle.claims.specs.Numbers.{Comes, Misformed, alone-here, busy-read, busy-update, copy-here, crowded, far-behind, held-full, inbox-full-single, inbox-full-take, inboxAfter, last-broadcast, last-read, last-update, no-broadcast, no-copy, no-holder, no-letter, no-message, nobody, none-in-flight, not-alone, not-asking, not-done, not-read, not-update, outbox-full-read, outbox-full-reply, outbox-full-update, second-in-flight, undelivered}
 use Rattle.claims.specs.Published.{Letter, Published, answered, begin, mail, sight}
-use Rattle.claims.specs.PublishedRun.{decodedRefusal, finalFrom, refusalOf}
+use Rattle.claims.specs.PublishedRun.{answerDecoded, finalFrom, refusalOf}
 use Rattle.claims.specs.Steps.{Decoded, RawStep, bad, decode, good}
 
 module _ (P : Placement) (ok : placementRefusal P ≡ 0) where
@@ -175,11 +177,12 @@ module _ (P : Placement) (ok : placementRefusal P ≡ 0) where
 
     -- and the ledger's number is never 6
     pub ledger-never-6 : (a : RawStep) → numberOf P (ledger P (paper {U = unvalued} P l)) a ≡ 6 → ⊥
-    ledger-never-6 a e = never-6 a (ap (λ s. refusalOf P s a) (together P ok l) ∙ same (decode P a) ∙ sym (number-forget numbers P l (decode P a)) ∙ e)
+    ledger-never-6 a e = never-6 a (refused-number P (finalFrom P begin l) (decode P a) 6 (not-zero-refused 6 (omega arith) (λ z. omega arith)) .0
+        (ap (λ s. answerDecoded P s (decode P a) .result) (together P ok l) ∙ same (decode P a) ∙ sym (number-forget numbers P l (decode P a)) ∙ e))
       where
-        same : (d : Decoded) → decodedRefusal P (shown P ds) d ≡ decodedNumber P (ledger P ds) d
+        same : (d : Decoded) → answerDecoded P (shown P ds) d .result ≡ decodedNumber P (ledger P ds) d
         same (bad n) = refl
-        same (good c) = same-refusal P ok ds (executes numbers P ok l) c
+        same (good c) = same-result P ok ds (executes numbers P ok l) c
 
     -- the limits, for the published state
     pub published-limits : WithinLimits mail (P .cards) (sight P (finalFrom P begin l))

@@ -1,19 +1,21 @@
--- The same messages under other names: steps are refused with the same numbers.
+-- The same messages under other names: steps are refused with the same numbers, and hold alike.
 use Prim.Native.Nat.{ℕ}
 use lib.Dec.{leb, ltb}
 use lib.ListN.{length-map}
 use mathlib.Core.Bool.{Bool, cond, not, _&&_}
 use mathlib.Core.List.{List, [], map, _∷_}
 use mathlib.Core.Path.{ap, ap₂, refl, _≡_}
-use Rattle.automaton.proofs.RenamedRefusals.{channelRefusal-map}
+use Rattle.automaton.proofs.RenamedRefusals.{channelRefusal-map, holds-map}
 use Rattle.automaton.specs.Mail.{Mail}
 use Rattle.automaton.specs.Refusals.{channelRefusal, otherwise}
 use Rattle.automaton.specs.Renaming.{Alike, SentAlike, channel-map}
 use Rattle.automaton.specs.State.{ChannelState}
 use Rattle.names.specs.Placement.{Placement, copy, holders, home}
+use Rattle.names.specs.Results.{resultFrom}
 use Rattle.claims.specs.Command.{Command}
 use Rattle.claims.specs.Published.{stage}
 use Rattle.claims.specs.Refusals.{Sight, Stage, alone, asksRead, asksUpdate, deliverRefusal, done, headRefusal, outboxRoom, quiet, refusal, sendReadRefusal, sendUpdateRefusal, waits}
+use Rattle.claims.specs.Results.{holding, result}
 use Rattle.claims.specs.Command as K
 use Rattle.automaton.specs.State as C
 
@@ -61,3 +63,18 @@ module _ (P : Placement) {M N : Type 0} (h : M → N) (a : Mail M) (b : Mail N) 
   refusal-map s u pq (K.takeSingle c) = channelRefusal-map h a b r (P .cards) (s .channel) u (C.takeSingle c)
   refusal-map s u pq (K.deliver i) = deliver-map i (s .out i) (s .channel .inbox i) (pq i)
   refusal-map s u pq (K.report c) = refl
+
+  holding-map : (s : Sight M) (c : Command) → holding b (sight-map h s) c ≡ holding a s c
+  holding-map s (K.request-read c x) = refl
+  holding-map s (K.request-update c x f w) = refl
+  holding-map s (K.perform c) = refl
+  holding-map s (K.send-read c i) = refl
+  holding-map s (K.send-update c) = refl
+  holding-map s (K.dispatch i) = refl
+  holding-map s (K.takeBroadcast i) = refl
+  holding-map s (K.takeSingle c) = holds-map h a b r (P .cards) (s .channel) (C.takeSingle c)
+  holding-map s (K.deliver i) = refl
+  holding-map s (K.report c) = refl
+
+  pub result-map : (s : Sight M) → SentAlike h a b (s .channel) → ((i : ℕ) (m : M) (r : List M) → s .channel .inbox i ≡ m ∷ r → q (h m) i ≡ p m i) → (c : Command) → result P b q (sight-map h s) c ≡ result P a p s c
+  result-map s u pq c = ap₂ resultFrom (refusal-map s u pq c) (holding-map s c)

@@ -1,5 +1,6 @@
 -- An operation is reported at a step exactly if that is its task's next taken 10 after its request (specs/Reports).
 use Prim.Native.Nat.{suc, ℕ, _<_, _≤_}
+use borrow.Author.Tests.{eqb-true}
 use lib.ListN.{drop, length, length-append, take, take-append-drop}
 use mathlib.Core.Bool.{cond}
 use mathlib.Core.List.{List, [], append-assoc, map, _++_, _∷_}
@@ -13,6 +14,7 @@ use Rattle.lists.specs.Keys.{Tri, alike, less, more, tri}
 use Rattle.lists.specs.Places.{nth}
 use Rattle.lists.specs.Tests.{eqb-of}
 use Rattle.names.specs.Placement.{Placement, placementRefusal}
+use Rattle.names.specs.Results.{isTaken}
 use Rattle.registers.proofs.Reported.{past, present}
 use Rattle.registers.proofs.Requests.{below-count, busy-task, requested}
 use Rattle.registers.proofs.Statuses.{Busy}
@@ -25,6 +27,7 @@ use Rattle.claims.proofs.Joint.{upper}
 use Rattle.claims.proofs.LedgerRun.{Sim, ended-requested, ord, rk, valid}
 use Rattle.claims.proofs.LedgerRuns.{sim}
 use Rattle.claims.proofs.LedgerNumbers.{split-at}
+use Rattle.claims.proofs.Results.{ledger-taken}
 use Rattle.claims.proofs.StepByStep.{before, before-suf, grown, one-step, opened, take-front, take-one, take-short, whole-suf}
 use Rattle.claims.proofs.Tens.{done-then, first-reporter, no-longer, only-ten, reporterOf}
 use Rattle.claims.proofs.Taken.{executes, notes-refused, notes-taken, taken}
@@ -93,7 +96,8 @@ module _ (P : Placement) (ok : placementRefusal P ≡ 0) (steps : List RawStep) 
   -- a taken 10 does
   notes-ten : (c n : ℕ) → Reports10 P steps c n → (k : ℕ) × Notes10 c k n
   notes-ten c n r =
-      let z : ledgerRefusal P (bookAt P steps n) (K.report c) ≡ 0 = sym (ap (decodedNumber P (bookAt P steps n)) (r .ten)) ∙ r .taken in
+      let z : ledgerRefusal P (bookAt P steps n) (K.report c) ≡ 0 =
+      eqb-true _ _ (sym (ledger-taken P (bookAt P steps n) (K.report c)) ∙ sym (ap (λ d. isTaken (decodedNumber P (bookAt P steps n) d)) (r .ten)) ∙ r .taken) in
       let d = done-then (bookAt P steps n .ops) (bookAt P steps n .layer .status c) z in (
         d .0,
         (
@@ -135,7 +139,7 @@ module _ (P : Placement) (ok : placementRefusal P ≡ 0) (steps : List RawStep) 
           by (yes z) =
               let f = executes unvalued P ok (take n steps) in
               let t = only-ten P (bookAt P steps n) c (r .task) (ap reporterOf (taken P ok (before P ok steps n) f c z .1) ∙ ap first-reporter (sym (notes-taken P ok (before P ok steps n) f c z) ∙ e)) in
-              record { it = r .it; stands = stands; ten = q ∙ ap good t; taken = ap (decodedNumber P (bookAt P steps n)) q ∙ z }
+              record { it = r .it; stands = stands; ten = q ∙ ap good t; taken = ap (λ d. isTaken (decodedNumber P (bookAt P steps n) d)) q ∙ ledger-taken P (bookAt P steps n) c ∙ eqb-of z }
           by (no z) = no-longer (before P ok steps n) _ (sym (notes-refused P ok (before P ok steps n) c z) ∙ e)
 
   -- ---- the two directions

@@ -1,5 +1,5 @@
 -- The published state is that of the two layers with values, operation numbers forgotten: statuses, table of copies, outboxes, channel. The
--- same steps are refused in both, with the same numbers.
+-- same steps are refused in both, with the same numbers, and hold messages.
 use Prim.Native.Nat.{ℕ, _<_}
 use borrow.Author.Tests.{eqb-true}
 use lib.Dec.{eqb}
@@ -22,12 +22,15 @@ use Rattle.claims.proofs.CardSets.{cards-low, home-low, just-member, ju
 use Rattle.claims.proofs.Current.{Current, delivered-current, holds-now, sets-low}
 use Rattle.claims.proofs.Executions.{Execution}
 use Rattle.claims.proofs.InSets.{in-set}
-use Rattle.claims.proofs.Renaming.{refusal-map}
+use Rattle.claims.proofs.Renaming.{refusal-map, result-map, sight-map}
 use Rattle.claims.specs.Command.{Command}
-use Rattle.claims.specs.Ledger.{Action, Ledger, Op, answeredOf, first, ledger, ledgerMail, ledgerRefusal, opAt, sightOf, stageOf, world}
+use Rattle.claims.specs.Ledger.{Action, Ledger, Op, answeredOf, decodedNumber, first, ledger, ledgerMail, ledgerRefusal, opAt, sightOf, stageOf, world}
 use Rattle.claims.specs.Holders.{inSet}
-use Rattle.claims.specs.Published.{Doing, Letter, Published, answered, askingRead, askingUpdate, commandRefusal, doneRead, doneUpdate, mail, quiet, replies, stage, waiting}
+use Rattle.claims.specs.Published.{Doing, Letter, Published, answered, askingRead, askingUpdate, commandRefusal, doneRead, doneUpdate, mail, quiet, replies, sight, stage, waiting}
+use Rattle.claims.specs.PublishedRun.{commandResult}
 use Rattle.claims.specs.Refusals.{refusal}
+use Rattle.claims.specs.Results.{result}
+use Rattle.claims.specs.Steps.{good}
 use Rattle.registers.specs.Layer as R
 use Rattle.claims.specs.Ledger as L
 use Rattle.claims.specs.Refusals as S
@@ -173,9 +176,19 @@ module _ (P : Placement) (ok : placementRefusal P ≡ 0) (ds : List (Action numb
       go m true = refl
       go m false = refl
 
+  same-sight : sight P (shown P ds) ≡ sight-map h (sightOf P b)
+  same-sight =
+      ap (λ g. record { requests = length (b .ops); stage = g; out = λ i. map h (b .layer .out i); channel = channel-map h (b .channel) })
+      (fun-ext (λ t. same-stage P (b .ops) (b .layer .status t)))
+
   -- both refuse a step with the same number
   pub same-refusal : (c : Command) → commandRefusal P (shown P ds) c ≡ ledgerRefusal P b c
   same-refusal c =
-      ap (λ g. refusal P mail (answered P) (record { requests = length (b .ops); stage = g; out = λ i. map h (b .layer .out i); channel = channel-map h (b .channel) }) c)
-      (fun-ext (λ t. same-stage P (b .ops) (b .layer .status t)))
+      ap (λ s. refusal P mail (answered P) s c) same-sight
       ∙ refusal-map P h (ledgerMail P b) mail alike (answeredOf (world P b)) (answered P) (sightOf P b) sent-alike answered-alike c
+
+  -- and answer it with the same result
+  pub same-result : (c : Command) → commandResult P (shown P ds) c ≡ decodedNumber P b (good c)
+  same-result c =
+      ap (λ s. result P mail (answered P) s c) same-sight
+      ∙ result-map P h (ledgerMail P b) mail alike (answeredOf (world P b)) (answered P) (sightOf P b) sent-alike answered-alike c

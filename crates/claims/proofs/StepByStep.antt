@@ -1,6 +1,7 @@
 -- The ledger step by step: what it writes down at a step, and how many operations it has.
 use Prim.Native.Nat.{suc, zero, ℕ, _<_, _≤_}
 use lib.ListN.{drop, length, length-append, take, take-append-drop}
+use mathlib.Core.Bool.{true}
 use mathlib.Core.List.{List, [], _++_, _∷_}
 use mathlib.Core.Logic.{inl, inr, _⊎_}
 use mathlib.Core.Option.{Option, Option·none-ne-some, none, some}
@@ -9,9 +10,12 @@ use native.Mathlib.Decide.{decLt, ℕ-discrete}
 use native.Mathlib.Omega.{arith}
 use Rattle.lists.specs.Histories.{Suf, back, stop}
 use Rattle.lists.specs.Places.{nth}
+use Rattle.lists.specs.Tests.{eqb-of}
 use Rattle.names.specs.Placement.{Placement, placementRefusal}
+use Rattle.names.specs.Results.{isTaken}
 use Rattle.registers.specs.Layer.{unvalued}
 use Rattle.claims.proofs.LedgerNumbers.{split-at}
+use Rattle.claims.proofs.Results.{ledger-taken}
 use Rattle.claims.proofs.Taken.{executes, notes-refused, notes-taken, paper-append, paper-snoc, paper-suf, taken}
 use Rattle.claims.specs.Ledger.{Action, Ledger, decodedNumber, deliver, dispatch, ledger, ledgerRefusal, notes, numberOf, paper, perform, report, request, send, step, takeBroadcast, takeSingle}
 use Rattle.claims.specs.Reports.{RequestedAt, bookAt}
@@ -89,7 +93,7 @@ module _ (P : Placement) (ok : placementRefusal P ≡ 0) where
 
     -- a step that opens an operation is taken, and opens one
     abbrev Grows : ℕ → Type 0
-    Grows n = (a : RawStep) × (nth steps n ≡ some a) × (numberOf P (bookAt P steps n) a ≡ 0) × (length (bookAt P steps (suc n) .ops) ≡ suc (length (bookAt P steps n .ops)))
+    Grows n = (a : RawStep) × (nth steps n ≡ some a) × (isTaken (numberOf P (bookAt P steps n) a) ≡ true) × (length (bookAt P steps (suc n) .ops) ≡ suc (length (bookAt P steps n .ops)))
 
     grows : (n : ℕ) → (length (bookAt P steps (suc n) .ops) ≡ length (bookAt P steps n .ops)) ⊎ Grows n
     grows n = go (nth steps n) refl
@@ -116,7 +120,7 @@ module _ (P : Placement) (ok : placementRefusal P ≡ 0) where
                 kind : (length (step P (bookAt P steps n) (t .0) .ops) ≡ length (bookAt P steps n .ops)) ⊎ (length (step P (bookAt P steps n) (t .0) .ops) ≡ suc (length (bookAt P steps n .ops)))
                     → (length (bookAt P steps (suc n) .ops) ≡ length (bookAt P steps n .ops)) ⊎ Grows n
                 kind (inl x) = inl (after ∙ x)
-                kind (inr x) = inr (a, e, ap (decodedNumber P (bookAt P steps n)) q ∙ z, after ∙ x)
+                kind (inr x) = inr (a, e, ap (λ d. isTaken (decodedNumber P (bookAt P steps n) d)) q ∙ ledger-taken P (bookAt P steps n) c ∙ eqb-of z, after ∙ x)
             by (no z) = inl (ap (λ ds. length (ledger P ds .ops)) (one-step n a e ∙ ap (notes P (before n)) q ∙ notes-refused P ok (before n) c z))
 
         go : (o : Option RawStep) → nth steps n ≡ o → (length (bookAt P steps (suc n) .ops) ≡ length (bookAt P steps n .ops)) ⊎ Grows n

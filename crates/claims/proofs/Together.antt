@@ -11,18 +11,21 @@ use native.Mathlib.Decide.{ℕ-discrete}
 use native.Mathlib.Omega.{arith}
 use Rattle.lists.specs.Tests.{eqb-not, eqb-of, eqb-refl}
 use Rattle.lists.specs.Places.{nth}
+use Rattle.names.proofs.Results.{not-held}
 use Rattle.names.specs.Placement.{Placement, placementRefusal}
+use Rattle.names.specs.Results.{resultFrom}
 use Rattle.registers.specs.Layer.{Msg, Status, unvalued}
 use Rattle.claims.proofs.Executions.{Execution}
 use Rattle.claims.proofs.Forgetting.{number-forget}
 use Rattle.claims.proofs.SameEffect.{same-effect}
-use Rattle.claims.proofs.Shown.{numbers, same-refusal, showStatus, shown}
+use Rattle.claims.proofs.Shown.{numbers, same-refusal, same-result, showStatus, shown}
 use Rattle.claims.proofs.Taken.{executes, executes-notes, notes-refused, notes-taken, taken}
 use Rattle.claims.specs.Command.{Command}
 use Rattle.claims.specs.Ledger.{Action, Ledger, Op, about, decodedNumber, headed, ledger, ledgerRefusal, notes, numberOf, opAt, paper, paperFrom, plan, stageOf, telling}
-use Rattle.claims.specs.Published.{Published, begin, commandRefusal, doneRead, doneUpdate, effect, post}
+use Rattle.claims.specs.Published.{Published, begin, commandRefusal, doneRead, doneUpdate, effect, mail, post, sight}
 use Rattle.claims.specs.PublishedRun.{afterDecoded, answerDecoded, answersFrom, finalFrom, publishedRun, valueAt, valueOf}
 use Rattle.claims.specs.Refusals.{reportRefusal}
+use Rattle.claims.specs.Results.{holding}
 use Rattle.claims.specs.Steps.{Decoded, RawStep, bad, decode, good}
 use Rattle.registers.specs.Layer as R
 use Rattle.claims.specs.Ledger as L
@@ -57,7 +60,7 @@ module _ (P : Placement) (ok : placementRefusal P ≡ 0) where
   pub answer-at : (pre : List RawStep) (a : RawStep) (post : List RawStep) → nth (publishedRun P (pre ++ a ∷ post) .1) (length pre) ≡ some (answerDecoded P (shown P (paper P pre)) (decode P a))
   answer-at pre a post = nth-answers begin pre a post ∙ ap (λ s. some (answerDecoded P s (decode P a))) (together pre)
 
-  -- the number is the ledger's, 0 if it takes the step
+  -- the result is the ledger's
   pub results-agree : (pre : List RawStep) (a : RawStep) (post : List RawStep)
       → (v : ℕ) × (nth (publishedRun P (pre ++ a ∷ post) .1) (length pre) ≡ some (record { result = numberOf P (ledger P (paper {U = unvalued} P pre)) a; value = v }))
   results-agree pre a post = let r = go (decode P a) in (r .0, answer-at pre a post ∙ ap some (r .1 ∙ ap (λ n. record { result = n; value = r .0 }) (sym (number-forget numbers P pre (decode P a)))))
@@ -69,7 +72,7 @@ module _ (P : Placement) (ok : placementRefusal P ≡ 0) where
       go (bad n) = (0, refl)
       go (good c) =
           let v = cond (eqb (commandRefusal P (shown P cs) c) 0) (valueAt (shown P cs) c) 0 in
-          (v, ap (λ m. record { result = m; value = v }) (same-refusal P ok cs (executes numbers P ok pre) c))
+          (v, ap (λ m. record { result = m; value = v }) (same-result P ok cs (executes numbers P ok pre) c))
 
   -- ---- a report
 
@@ -158,6 +161,19 @@ module _ (P : Placement) (ok : placementRefusal P ≡ 0) where
     value-is (K.deliver i) t k w e p u = other (plan P b (K.deliver i)) t k w (headed-none (b .channel .inbox i) (λ m. Action.deliver m i) (λ m. refl)) p
     value-is (K.report c) t k w e p u = reported-value c t k w (b .layer .status c) e p u
 
+    -- a report holds no message
+    not-holding : (c : Command) (t k w : ℕ) → plan P b c ≡ some (Action.report t k w) → holding mail (sight P (shown P ds)) c ≡ false
+    not-holding (K.request-read c x) t k w p = refl
+    not-holding (K.request-update c x n v) t k w p = refl
+    not-holding (K.perform c) t k w p = refl
+    not-holding (K.send-read c i) t k w p = refl
+    not-holding (K.send-update c) t k w p = refl
+    not-holding (K.dispatch i) t k w p = refl
+    not-holding (K.takeBroadcast i) t k w p = refl
+    not-holding (K.takeSingle c) t k w p = other (plan P b (K.takeSingle c)) t k w refl p
+    not-holding (K.deliver i) t k w p = refl
+    not-holding (K.report c) t k w p = refl
+
     -- the ledger takes a report: the published algorithm answers what the read found
     pub answer-is : (d : Decoded) (t k w : ℕ) → notes P ds d ≡ Action.report t k w ∷ ds → (opAt (b .ops) k) .upd ≡ false → answerDecoded P (shown P ds) d ≡ record { result = 0; value = w }
     answer-is (bad n) t k w e u = absurd (no-longer ds _ e)
@@ -165,7 +181,8 @@ module _ (P : Placement) (ok : placementRefusal P ≡ 0) where
       where
         go : Dec (ledgerRefusal P b c ≡ 0) → answerDecoded P (shown P ds) (good c) ≡ record { result = 0; value = w }
         go (yes z) =
-            ap₂ (λ m v. record { result = m; value = cond (eqb m 0) v 0 }) (same-refusal P ok ds f c ∙ z)
-            (value-is c t k w z (taken P ok ds f c z .1 ∙ ap some (first-is _ (Action.report t k w) ds ds (sym (notes-taken P ok ds f c z) ∙ e))) u)
-            ∙ ap (λ s. record { result = 0; value = cond s w 0 }) (eqb-refl 0)
+            let p : plan P b c ≡ some (Action.report t k w) = taken P ok ds f c z .1 ∙ ap some (first-is _ (Action.report t k w) ds ds (sym (notes-taken P ok ds f c z) ∙ e)) in
+            let r : commandRefusal P (shown P ds) c ≡ 0 = same-refusal P ok ds f c ∙ z in
+            ap₂ (λ m v. record { result = m; value = v }) (ap₂ resultFrom r (not-holding c t k w p) ∙ not-held)
+            (ap₂ (λ m v. cond (eqb m 0) v 0) r (value-is c t k w z p u) ∙ ap (λ s. cond s w 0) (eqb-refl 0))
         go (no n) = absurd (no-longer ds _ (sym (notes-refused P ok ds c n) ∙ e))

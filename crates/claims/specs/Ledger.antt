@@ -18,6 +18,7 @@ use Rattle.claims.specs.Command as K
 use Rattle.claims.specs.Steps.{RawStep, Decoded, bad, good, decode}
 use Rattle.claims.specs.Refusals.{Stage, Sight, refusal}
 use Rattle.claims.specs.Refusals as S
+use Rattle.claims.specs.Results.{result}
 
 -- ---- what it writes down
 
@@ -202,10 +203,10 @@ module _ {U : Values} (P : Placement) where
   abbrev pub ledgerRefusal : Ledger U → Command → ℕ
   ledgerRefusal b c = refusal P (ledgerMail b) (answeredOf (world b)) (sightOf b) c
 
-  -- of a step as it is given: 0 if it is taken, else the number
+  -- the result of a step as it is given: 0 or 100 if it is taken, else the number
   abbrev pub decodedNumber : Ledger U → Decoded → ℕ
   decodedNumber b (bad n) = n
-  decodedNumber b (good c) = ledgerRefusal b c
+  decodedNumber b (good c) = result P (ledgerMail b) (answeredOf (world b)) (sightOf b) c
 
   abbrev pub numberOf : Ledger U → RawStep → ℕ
   numberOf b s = decodedNumber b (decode P s)

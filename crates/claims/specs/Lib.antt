@@ -2,9 +2,11 @@ pub mod Holders
 pub mod Command
 pub mod Steps
 pub mod Refusals
+pub mod Results
 pub mod Published
 pub mod Allowed
 pub mod PublishedRun
+pub mod Held
 pub mod Ledger
 pub mod Paper
 pub mod Numbers

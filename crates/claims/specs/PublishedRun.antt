@@ -7,7 +7,8 @@ pub use Rattle.names.specs.declared.Answer.{Answer}
 use Rattle.names.specs.Placement.{Placement}
 use Rattle.claims.specs.Command.{Command, request-read, request-update, perform, send-read, send-update, dispatch, takeBroadcast, takeSingle, deliver, report}
 use Rattle.claims.specs.Steps.{RawStep, Decoded, bad, good, decode}
-use Rattle.claims.specs.Published.{Doing, quiet, askingRead, askingUpdate, waiting, doneRead, doneUpdate, Published, begin, effect, commandRefusal}
+use Rattle.claims.specs.Published.{Doing, quiet, askingRead, askingUpdate, waiting, doneRead, doneUpdate, Published, begin, mail, answered, effect, sight, commandRefusal}
+use Rattle.claims.specs.Results.{result}
 
 -- the value that a task's report gives
 abbrev pub valueOf : Doing → ℕ
@@ -36,6 +37,10 @@ module _ (P : Placement) where
   decodedRefusal s (bad n) = n
   decodedRefusal s (good c) = commandRefusal P s c
 
+  -- what a decoded step answers: its refusal, else whether it holds a message (RULES 4.2)
+  abbrev pub commandResult : Published → Command → ℕ
+  commandResult s c = result P mail (answered P) (sight P s) c
+
   abbrev pub refusalOf : Published → RawStep → ℕ
   refusalOf s a = decodedRefusal s (decode P a)
 
@@ -46,7 +51,7 @@ module _ (P : Placement) where
 
   abbrev pub answerDecoded : Published → Decoded → Answer
   answerDecoded s (bad n) = record { result = n; value = 0 }
-  answerDecoded s (good c) = record { result = commandRefusal P s c; value = cond (eqb (commandRefusal P s c) 0) (valueAt s c) 0 }
+  answerDecoded s (good c) = record { result = commandResult s c; value = cond (eqb (commandRefusal P s c) 0) (valueAt s c) 0 }
 
   -- the state after a list of steps, and the answers
   abbrev pub finalFrom : Published → List RawStep → Published

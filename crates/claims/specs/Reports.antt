@@ -3,11 +3,13 @@
 use Prim.Native.Nat.{ℕ, suc, _<_}
 use mathlib.Core.Path.{_≡_}
 use mathlib.Core.Logic.{_↔_}
+use mathlib.Core.Bool.{true}
 use mathlib.Core.List.{List}
 use mathlib.Core.Option.{some}
 use lib.ListN.{length, take}
 use Rattle.lists.specs.Places.{nth}
 use Rattle.names.specs.Placement.{Placement}
+use Rattle.names.specs.Results.{isTaken}
 use Rattle.claims.specs.Command.{report}
 use Rattle.claims.specs.Steps.{RawStep, good, decode}
 use Rattle.claims.specs.Ledger.{numberOf}
@@ -20,7 +22,7 @@ module _ (P : Placement) (steps : List RawStep) where
   abbrev pub bookAt : ℕ → Ledger
   bookAt n = ledger P (paper P (take n steps))
 
-  -- each answer's result is the ledger's number of that step: 0 if the ledger takes it, else the refusal
+  -- each answer's result is the ledger's of that step: 100 if the ledger takes it and holds a message, 0 if it takes it else, or the refusal
   abbrev pub LedgerNumbers : List Answer → Type 0
   LedgerNumbers answers = (n : ℕ) (a : RawStep) → nth steps n ≡ some a
       → (v : ℕ) × (nth answers n ≡ some (record { result = numberOf P (bookAt n) a; value = v }))
@@ -29,7 +31,7 @@ module _ (P : Placement) (steps : List RawStep) where
   pub record RequestedAt (k m : ℕ) : Type 0 where
     pub it : RawStep
     pub stands : nth steps m ≡ some it
-    pub taken : numberOf P (bookAt m) it ≡ 0
+    pub taken : isTaken (numberOf P (bookAt m) it) ≡ true
     pub before= : length (bookAt m .ops) ≡ k
     pub after= : length (bookAt (suc m) .ops) ≡ suc k
 
@@ -38,7 +40,7 @@ module _ (P : Placement) (steps : List RawStep) where
     pub it : RawStep
     pub stands : nth steps n ≡ some it
     pub ten : decode P it ≡ good (report c)
-    pub taken : numberOf P (bookAt n) it ≡ 0
+    pub taken : isTaken (numberOf P (bookAt n) it) ≡ true
 
   -- step n is the first taken 10 of k's task after the step that opened k (RULES 12.5)
   pub record FirstReport (k n : ℕ) : Type 0 where

@@ -84,6 +84,6 @@ pub(crate) fn ends(line: &[u8], at: usize) -> bool {
         return true;
     }
     let mut numbers = [0u32; 4];
-    let found = one_of(line, at, b"taken;refused", 2, &mut numbers);
+    let found = one_of(line, at, b"taken;held;refused", 3, &mut numbers);
     found.at != FAILED
 }

@@ -8,7 +8,8 @@ use borrow.Author.Tests.{eq-eqb, ne-eqb}
 use Rattle.lists.specs.Maps.{length-filter-map}
 use Rattle.names.specs.declared.Answer.{Answer}
 use Rattle.tally.specs.declared.Tally.{Tally}
-use Rattle.tally.specs.Tally.{counted, isTaken, countedSteps, takenIn, refusedIn}
+use Rattle.names.specs.Results.{isTaken}
+use Rattle.tally.specs.Tally.{counted, countedSteps, takenIn, refusedIn}
 use Rattle.tally.proofs.TallyLaws.{Fits, counted-none, all-at-once}
 use Rattle.runfile.specs.declared.Answered.{Answered}
 use Rattle.runfile.specs.Run.{answersIn, isRefused, takenOf, refusedOf, answerRefusal, answeredOf}

@@ -3,7 +3,8 @@ use Prim.Native.Nat.{ℕ}
 use mathlib.Core.Path.{_≡_, refl}
 use mathlib.Core.Bool.{Bool, true, false, cond}
 use Rattle.tally.specs.declared.Tally.{Tally}
-use Rattle.tally.specs.Tally.{counted, isTaken, countedStep}
+use Rattle.names.specs.Results.{isTaken}
+use Rattle.tally.specs.Tally.{counted, countedStep}
 use Rattle.firmware.specs.StepTally.{countsOf}
 
 pub counted-once : (t : Tally) (result : ℕ) → counted t (countsOf result .taken) (countsOf result .refused) ≡ countedStep t result

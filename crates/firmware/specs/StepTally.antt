@@ -1,7 +1,7 @@
--- A step as a tally counts it (RULES 9.3): taken for result 0, else refused, 6 too.
+-- A step as a tally counts it (RULES 9.3): taken for result 0 or 100, else refused, 6 too.
 use Prim.Native.Nat.{ℕ}
 use mathlib.Core.Bool.{cond}
-use Rattle.tally.specs.Tally.{isTaken}
+use Rattle.names.specs.Results.{isTaken}
 use Rattle.firmware.specs.declared.Counts.{Counts}
 
 unfoldable pub countsOf : ℕ → Counts

@@ -39,9 +39,9 @@ pub extern "C" fn gondzselu_channel_words() -> usize
 // The version of what is offered: major * 1,000,000 + minor * 1,000 + patch.
 #[no_mangle]
 pub extern "C" fn gondzselu_version() -> u32
-    ensures { λ r. ⌜ r ≡ 6000 ⌝ }
+    ensures { λ r. ⌜ r ≡ 7000 ⌝ }
 {
-    6000
+    7000
 }
 
 // ---- a whole run
@@ -123,7 +123,7 @@ pub extern "C" fn gondzselu_start_file(
     runfile::start(file, registers, channel)
 }
 
-// One step: its result, 0 where it is taken, and its value.
+// One step: its result, 0 where it is taken, 100 where it is taken and its message is held, and its value.
 #[no_mangle]
 pub extern "C" fn gondzselu_step(
     registers: &mut [u32; 593],
@@ -152,7 +152,7 @@ struct Counts {
 fn count_of(result: u8) -> Counts
     ensures { λ r. ⌜ r ≡ countsOf result ⌝ }
 {
-    if result == 0 {
+    if names::is_taken(result) {
         return Counts {
             result: result,
             taken: 1,

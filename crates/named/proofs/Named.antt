@@ -12,6 +12,7 @@ use Rattle.lists.specs.Loops.{total, turns}
 use Rattle.lists.specs.Tests.{and-fst, and-snd}
 use Rattle.names.specs.CardSet.{justOf, memberOf, several, single, sizeOf, soleOf}
 use Rattle.names.specs.Placement.{homePlaced, homesPlaced, placed, registerPlaced, registersPlaced, sizesInRange}
+use Rattle.names.specs.Results.{resultFrom}
 use Rattle.names.specs.Update.{knownFunction, largerOf, raised, sumOf, updated}
 use Rattle.claims.specs.Steps.{cardThere, commandOf, decode, functionThere, known, namesCard, namesChosen, namesFunction, namesRegister, namesTask, operand, registerThere, taskThere, unnamedZero}
 use Rattle.runfile.specs.RunFile.{stepsIn, copiesAt, primariesAt, codesAt, argumentsAt, fileLength, placementIn, codeIn, argumentIn, sizesSound, fileRefusal}
@@ -42,7 +43,7 @@ all [] = true
 all (r ∷ rs) = passes r && all rs
 
 checked : all table ≡ true
-unfolding all passes same answerOf answersIn answerBytes fileRefusal sizesSound fileLength placementIn codeIn argumentIn argumentsAt codesAt primariesAt copiesAt stepsIn listing each total turns sizesInRange placed homesPlaced homePlaced registersPlaced registerPlaced memberOf several single sizeOf soleOf justOf updated raised largerOf sumOf decode known unnamedZero taskThere registerThere cardThere functionThere knownFunction namesTask namesCard namesRegister namesChosen namesFunction operand commandOf eqb leb
+unfolding all passes same answerOf answersIn resultFrom answerBytes fileRefusal sizesSound fileLength placementIn codeIn argumentIn argumentsAt codesAt primariesAt copiesAt stepsIn listing each total turns sizesInRange placed homesPlaced homePlaced registersPlaced registerPlaced memberOf several single sizeOf soleOf justOf updated raised largerOf sumOf decode known unnamedZero taskThere registerThere cardThere functionThere knownFunction namesTask namesCard namesRegister namesChosen namesFunction operand commandOf eqb leb
 checked = refl
 
 passed : (rs : List NamedRun) → all rs ≡ true → (r : NamedRun) → In r rs → passes r ≡ true

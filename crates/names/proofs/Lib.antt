@@ -5,5 +5,6 @@ pub mod LettersMeaning
 pub mod Picks
 pub mod PlacementLaws
 pub mod Raised
+pub mod Results
 pub mod Rings
 pub mod UpdateMeaning

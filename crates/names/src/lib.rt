@@ -4,6 +4,7 @@ ghost use mathlib.Core.Path.{_≡_};
 ghost use mathlib.Core.Bool.{cond};
 ghost use Prim.Native.Nat.{_<_};
 ghost use Rattle.names.specs.CardSet.{memberOf, several, single, soleOf};
+ghost use Rattle.names.specs.Results.{isTaken};
 ghost use Rattle.names.specs.Update.{raised, largerOf, sumOf, updated, knownFunction};
 
 pub mod letters;
@@ -53,10 +54,18 @@ pub struct Packet {
     pub value: u32,
 }
 
-// What a step answers: 0 where it is taken, else its refusal; and the value that a taken report of a read gives, else 0.
+// What a step answers: 0 where it is taken, or 100 where it is taken and its message is held, else its refusal; and the value that a taken
+// report of a read gives, else 0.
 pub struct Answer {
     pub result: u8,
     pub value: u32,
+}
+
+// Whether a result says that its step is taken.
+pub fn is_taken(result: u8) -> bool
+    ensures { λ r. ⌜ r ≡ isTaken result ⌝ }
+{
+    (result == 0) | (result == 100)
 }
 
 // A number as a place in memory: below 2^32, which a bound on places needs.

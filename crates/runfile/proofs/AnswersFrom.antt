@@ -5,27 +5,26 @@ use mathlib.Core.List.{List, [], _∷_, _++_}
 use lib.ListN.{length}
 use Prim.Native.Nat.{suc}
 use Rattle.lists.specs.Histories.{In, here, there}
+use native.Mathlib.Omega.{arith}
+use Rattle.names.proofs.Results.{not-zero-refused}
 use Rattle.names.specs.Placement.{Placement, placementRefusal}
 use Rattle.names.specs.declared.Answer.{Answer}
-use Rattle.claims.specs.Steps.{RawStep, Decoded, bad, good, decode}
+use Rattle.claims.specs.Steps.{RawStep, decode}
 use Rattle.claims.specs.Published.{Published, begin}
-use Rattle.claims.specs.PublishedRun.{decodedRefusal, answerDecoded, afterDecoded, answersFrom, finalFrom}
+use Rattle.claims.specs.PublishedRun.{afterDecoded, answersFrom, finalFrom}
 use Rattle.claims.proofs.NeverSix.{never-6}
+use Rattle.claims.proofs.Results.{refused-number}
 
 module _ (P : Placement) where
   pub one-each : (s : Published) (l : List RawStep) → length (answersFrom P s l) ≡ length l
   one-each s [] = refl
   one-each s (a ∷ l) = ap suc (one-each (afterDecoded P s (decode P a)) l)
 
-  result-is : (s : Published) (d : Decoded) → answerDecoded P s d .result ≡ decodedRefusal P s d
-  result-is s (bad n) = refl
-  result-is s (good c) = refl
-
   final-snoc : (s : Published) (l : List RawStep) (a : RawStep) → finalFrom P s (l ++ (a ∷ [])) ≡ afterDecoded P (finalFrom P s l) (decode P a)
   final-snoc s [] a = refl
   final-snoc s (b ∷ l) a = final-snoc (afterDecoded P s (decode P b)) l a
 
   pub no-six : placementRefusal P ≡ 0 → (before l : List RawStep) (a : Answer) → In a (answersFrom P (finalFrom P begin before) l) → a .result ≢ 6
-  no-six ok before (b ∷ l) a (here e) q = never-6 P ok before b (sym (result-is (finalFrom P begin before) (decode P b)) ∙ ap (λ (x : Answer). x .result) e ∙ q)
+  no-six ok before (b ∷ l) a (here e) q = never-6 P ok before b (refused-number P (finalFrom P begin before) (decode P b) 6 (not-zero-refused 6 (omega arith) (λ z. omega arith)) .0 (ap (λ (x : Answer). x .result) e ∙ q))
   no-six ok before (b ∷ l) a (there h) q =
       no-six ok (before ++ (b ∷ [])) l a (subst (λ s. In a (answersFrom P s l)) (sym (final-snoc begin before b)) h) q

@@ -12,7 +12,7 @@ use Rattle.names.specs.Step.{RawStep}
 use Rattle.names.specs.declared.Answer.{Answer}
 use Rattle.store.specs.Step.{advanced}
 use Rattle.store.specs.Run.{Store, advance, answersAdvancing}
-use Rattle.tally.specs.Tally.{isTaken}
+use Rattle.names.specs.Results.{isTaken}
 use Rattle.runfile.specs.Run.{isRefused, takenOf, refusedOf}
 use Rattle.runfile.specs.Stepwise.{storeAt, answerAt}
 

@@ -6,7 +6,7 @@ use lib.Dec.{eqb, ltb}
 use lib.ListN.{length}
 use Rattle.lists.specs.Filters.{filter}
 use Rattle.names.specs.declared.Answer.{Answer}
-use Rattle.tally.specs.Tally.{isTaken}
+use Rattle.names.specs.Results.{isTaken}
 use Rattle.claims.specs.Published.{begin}
 use Rattle.claims.specs.PublishedRun.{answersFrom}
 use Rattle.tables.specs.Start.{startRegisters, startChannel}

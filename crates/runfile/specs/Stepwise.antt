@@ -8,7 +8,7 @@ use Rattle.names.specs.declared.Answer.{Answer}
 use Rattle.store.specs.Step.{advanced}
 use Rattle.store.specs.Run.{Store, advance}
 use Rattle.runfile.specs.declared.Answered.{Answered}
-use Rattle.tally.specs.Tally.{isTaken}
+use Rattle.names.specs.Results.{isTaken}
 use Rattle.runfile.specs.Run.{isRefused}
 
 abbrev pub stored : List ℕ → List ℕ → Store

@@ -7,7 +7,6 @@ ghost use lib.ListN.{length, drop};
 ghost use Rattle.runfile.specs.RunFile.{stepsIn, codesAt, argumentsAt, fileLength, placementIn, codeIn, argumentIn, stepIn, fileRefusal};
 ghost use Rattle.runfile.specs.AnswerFile.{headed, putAnswer, putAnswers};
 ghost use Rattle.runfile.specs.Stepwise.{stored, answerAt, counted};
-ghost use Rattle.tally.specs.Tally.{isTaken};
 ghost use Rattle.runfile.specs.Run.{fileRegisters, fileChannel, answerOf, answerOutput, answeredOf};
 ghost use Rattle.tables.specs.Start.{startRegisters, startChannel};
 ghost use Rattle.store.specs.Step.{advanced};
@@ -82,12 +81,6 @@ fn argument_from(file: &[u8], arguments: usize, k: usize) -> [u8; 8]
     ]
 }
 
-fn is_taken(result: u8) -> bool
-    ensures { λ r. ⌜ r ≡ isTaken result ⌝ }
-{
-    result == 0
-}
-
 fn one_if(b: bool) -> u32
     ensures { λ r. ⌜ (r ≡ cond b 1 0) × (r ≤ 1) ⌝ }
 {
@@ -142,7 +135,7 @@ fn go(
     let mut k: usize = 0;
     while k < n {
         let result = turn(file, out, registers, channel, codes, arguments, n, k);
-        taken += one_if(is_taken(result));
+        taken += one_if(names::is_taken(result));
         k += 1;
     }
     let refused = steps - taken;

@@ -10,7 +10,7 @@ fn add(x: u32, y: u32) -> u32 {
 
 // 1 for a step that is taken.
 fn one(result: u8) -> u32 {
-    if result == 0 {
+    if names::is_taken(result) {
         return 1;
     }
     0

@@ -53,32 +53,42 @@ fn steps(out: &[u8]) -> u32
     byte(out, 0) + 256 * byte(out, 1)
 }
 
-// Whether a number is among the results, which end at a place.
-fn occurs(out: &[u8], end: usize, number: u32) -> bool {
-    let mut i: usize = 2;
-    while i < end {
-        if byte(out, i) == number {
-            return true;
-        }
-        i += 1;
+fn one_if(same: bool) -> u32 {
+    if same {
+        return 1;
     }
-    false
+    0
 }
 
-fn say_if_occurs(page: &mut [u8; 65536], at: usize, out: &[u8], end: usize, number: u32) -> usize {
-    if occurs(out, end, number) {
-        return tell_one(page, at, b" #", number);
+// How often a number is among the results.
+fn times(out: &[u8], number: u32) -> u32 {
+    let end = 2 + wide(steps(out));
+    let mut count: u32 = 0;
+    let mut i: usize = 2;
+    while i < end {
+        count = std::num::wrapping_add_u32(count, one_if(byte(out, i) == number));
+        i += 1;
     }
-    at
+    count
+}
+
+// A number that refuses and occurs.
+fn say_if_occurs(page: &mut [u8; 65536], at: usize, out: &[u8], number: u32) -> usize {
+    if names::is_taken((number % 256) as u8) {
+        return at;
+    }
+    if times(out, number) == 0 {
+        return at;
+    }
+    tell_one(page, at, b" #", number)
 }
 
 // The refusals that occur.
 fn refusals(page: &mut [u8; 65536], at: usize, out: &[u8]) -> usize {
-    let end = 2 + wide(steps(out));
     let mut next = say(page, at, b", with");
     let mut number: u32 = 1;
     while number < 256 {
-        next = say_if_occurs(page, next, out, end, number);
+        next = say_if_occurs(page, next, out, number);
         number += 1;
     }
     next
@@ -114,8 +124,8 @@ fn told(
     taken: u32,
     refused: u32,
 ) -> usize {
-    let numbers = [steps(out), taken, refused];
-    let a = tell(page, at, b" steps #, taken #, refused #", &numbers);
+    let numbers = [steps(out), taken, times(out, 100), refused];
+    let a = tell(page, at, b" steps #, taken # (held #), refused #", &numbers);
     let b = refusals(page, a, out);
     verdict(page, b, out, answer)
 }

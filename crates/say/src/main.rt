@@ -15,7 +15,7 @@ fn result(file: &[u8], k: u32) -> u8 {
 
 // 1 for a step that is refused.
 fn one(result: u8) -> u32 {
-    if result == 0 {
+    if names::is_taken(result) {
         return 0;
     }
     1
@@ -31,9 +31,9 @@ fn refused(file: &[u8], n: u32) -> u32 {
     count
 }
 
-// Whether a result is 0 or has a phrase.
+// Whether a result says taken or has a phrase.
 fn spoken(result: u8) -> bool {
-    if result == 0 {
+    if names::is_taken(result) {
         return true;
     }
     let mut text = [0u8; 64];
@@ -53,7 +53,7 @@ fn all_spoken(file: &[u8], n: u32) -> bool {
 
 // A line for a refused step.
 fn line(page: &mut [u8; 65536], at: usize, k: u32, result: u8) -> usize {
-    if result == 0 {
+    if names::is_taken(result) {
         return at;
     }
     let mut text = [0u8; 64];

@@ -15,6 +15,8 @@ use Rattle.names.specs.declared.Body.the-variants.{ReadDo, ReadReply, UpdateDo,
 use Rattle.names.specs.CardSet.{justOf}
 use Rattle.names.specs.Letters.{known}
 use Rattle.names.specs.Update.{updated}
+use Rattle.names.specs.Results.{isTaken}
+use Rattle.names.proofs.Results.{taken-zero}
 use Rattle.names.specs.Placement.{Placement, home, primary, copy}
 use Rattle.automaton.specs.State.{ChannelState, deliver, channelStep}
 use Rattle.channel.specs.Layout.{cardsOf, tasksOf, registersOf}
@@ -179,7 +181,7 @@ module _ (rs cs : List ℕ) (P : Placement) (s : Published) (z : Ready rs cs P s
     delivered n =
         let y = body-ready rs cs P s z (i .0) card (plain l) (fit .task) (fit .register) (l .message .body) n in
         let k = received in
-        let q : receivedNumber (receiveAnswer cs i) ≡ 0 = rw got-it (got-number (l .message)) in
+        let q : isTaken (receivedNumber (receiveAnswer cs i)) ≡ true = ap isTaken (ap receivedNumber got-it ∙ got-number (l .message)) ∙ taken-zero in
         channel-ready rs (bodyWords rs (i .0) (l .message .task .0) (l .message .register .0) (l .message .body)) cs (receiveMemory cs i) P s
         (receiving P s (i .0) (plain l) (l .message .body)) z (y .long) (y .fit)
         (record {
@@ -206,7 +208,7 @@ module _ (rs cs : List ℕ) (P : Placement) (s : Published) (z : Ready rs cs P s
       go : (a : List Letter) → w .inbox (i .0) ≡ a → StepFollows rs cs P s (outcome (deliverNumber rs cs i) (deliverRegisters rs cs i) (deliverChannel rs cs i)) (good (Step.deliver (i .0)))
       go [] e =
           let g : receiveAnswer cs i ≡ Empty = got ∙ ap handedUp e in
-          follows rs cs P s z (deliverNumber rs cs i) (deliverRegisters rs cs i) (deliverChannel rs cs i) (Step.deliver (i .0)) refl
+          follows rs cs P s z (deliverNumber rs cs i) (deliverRegisters rs cs i) (deliverChannel rs cs i) (Step.deliver (i .0)) (refl, refl)
           (rw (g, inbox-is, e)) (λ q. absurd (none g q)) (λ q. rw g (refl, refl))
         where
           none : receiveAnswer cs i ≡ Empty → deliverNumber rs cs i ≡ 0 → ⊥
@@ -214,7 +216,7 @@ module _ (rs cs : List ℕ) (P : Placement) (s : Published) (z : Ready rs cs P s
       go (l ∷ r) e =
           let f = fit l r e in
           let g = got-it l r e in
-          follows rs cs P s z (deliverNumber rs cs i) (deliverRegisters rs cs i) (deliverChannel rs cs i) (Step.deliver (i .0)) refl
+          follows rs cs P s z (deliverNumber rs cs i) (deliverRegisters rs cs i) (deliverChannel rs cs i) (Step.deliver (i .0)) (refl, refl)
           (rw (g, inbox-is, e) (body-number rs cs P s z (i .0) card (plain l) (f .task) (f .register) (l .message .body)))
           (λ q. rw (q, g, inbox-is, e) (delivered l r e (sym (number-is l r e) ∙ q)))
           (λ q. (rw g (body-refused rs cs P s z (i .0) card (plain l) (f .task) (f .register) (l .message .body) (λ h. q (number-is l r e ∙ h))), rw (ne-eqb (deliverNumber rs cs i) 0 q)))

@@ -8,6 +8,7 @@ use Rattle.lists.specs.Every.{each}
 use Rattle.lists.specs.Loops.{total, turns}
 use Rattle.names.specs.CardSet.{justOf, memberOf, several, single, sizeOf, soleOf}
 use Rattle.names.specs.Placement.{homePlaced, homesPlaced, placed, placementRefusal, registerPlaced, registersPlaced, sized, sizesInRange}
+use Rattle.names.specs.Results.{resultFrom}
 use Rattle.names.specs.Update.{knownFunction, largerOf, raised, sumOf, updated}
 use Rattle.claims.specs.Steps.{RawStep, cardThere, commandOf, decode, functionThere, known, namesCard, namesChosen, namesFunction, namesRegister, namesTask, operand, registerThere, taskThere, unnamedZero}
 use Rattle.claims.specs.Published.{begin}
@@ -34,11 +35,11 @@ unfolding decode known unnamedZero taskThere registerThere cardThere functionThe
 inbox-met = refl
 
 k11-results : map (λ a. a .result) (answersFrom crowd begin k11) ≡ thenRefused 146 34
-unfolding decode known unnamedZero taskThere registerThere cardThere functionThere knownFunction namesTask namesCard namesRegister namesChosen namesFunction operand commandOf each memberOf several single sizeOf soleOf justOf total turns updated raised largerOf sumOf eqb leb
+unfolding resultFrom decode known unnamedZero taskThere registerThere cardThere functionThere knownFunction namesTask namesCard namesRegister namesChosen namesFunction operand commandOf each memberOf several single sizeOf soleOf justOf total turns updated raised largerOf sumOf eqb leb
 k11-results = refl
 
 k12-results : map (λ a. a .result) (answersFrom crowd begin k12) ≡ thenRefused 230 35
-unfolding decode known unnamedZero taskThere registerThere cardThere functionThere knownFunction namesTask namesCard namesRegister namesChosen namesFunction operand commandOf each memberOf several single sizeOf soleOf justOf total turns updated raised largerOf sumOf eqb leb
+unfolding resultFrom decode known unnamedZero taskThere registerThere cardThere functionThere knownFunction namesTask namesCard namesRegister namesChosen namesFunction operand commandOf each memberOf several single sizeOf soleOf justOf total turns updated raised largerOf sumOf eqb leb
 k12-results = refl
 
 -- the store answers as the published algorithm does

@@ -7,6 +7,7 @@ use lib.ListN.{length}
 use Rattle.lists.specs.Tests.{false-of}
 use Rattle.lists.specs.Every.{each, each-at, each-of}
 use Rattle.names.specs.Placement.{Placement}
+use Rattle.names.specs.Results.{resultFrom}
 use Rattle.automaton.specs.MostBehind.{mostBehind, keepsUp}
 use Rattle.automaton.proofs.KeepsUp.{keeps-up, kept-up}
 use Rattle.claims.specs.Published.{Published}
@@ -23,6 +24,7 @@ module _ (P : Placement) (s : Published) where
   far j c e = false-of _ (λ t. let l : suc (length (s .channel .sent)) ≤ s .channel .taken j + mostBehind = kept-up _ _ (each-at (P .cards) near-test t j c) in omega arith)
 
   pub limit-steps : LimitSteps P s
+  unfolding resultFrom
   limit-steps = record {
     request = λ c x q. (λ n. rw (q, n), λ n. rw (q, n));
     outbox = λ c x j q k. (λ n. rw (q, k, n), λ n. rw (q, k, n));

@@ -1,22 +1,20 @@
 -- No state reached by calls from a start gives 6: the store stays well sized, and answers as the published algorithm does, which never
 -- answers 6 either.
-use mathlib.Core.Path.{_≡_, refl, sym, ap, _∙_}
+use mathlib.Core.Path.{_≡_, sym, ap, _∙_}
 use mathlib.Core.List.{List}
+use native.Mathlib.Omega.{arith}
+use Rattle.names.proofs.Results.{not-zero-refused}
 use Rattle.names.specs.Placement.{Placement, placementRefusal}
-use Rattle.claims.specs.Steps.{RawStep, Decoded, bad, good, decode}
-use Rattle.claims.specs.Published.{Published, begin}
-use Rattle.claims.specs.PublishedRun.{decodedRefusal, answerDecoded, finalFrom}
+use Rattle.claims.specs.Steps.{RawStep, decode}
+use Rattle.claims.specs.Published.{begin}
+use Rattle.claims.specs.PublishedRun.{finalFrom}
+use Rattle.claims.proofs.Results.{refused-number}
 use Rattle.claims.proofs.NeverSix.{never-6}
 use Rattle.store.specs.Run.{Store, started, storeAfter}
 use Rattle.store.specs.Starts.{NeverSix}
 use Rattle.store.proofs.StepLaw.{step-follows}
 use Rattle.store.proofs.StartLaw.{start-stands}
 use Rattle.store.proofs.Demand3.{At, after-shows}
-
--- the result of an answer is the refusal
-result-is : (P : Placement) (s : Published) (d : Decoded) → answerDecoded P s d .result ≡ decodedRefusal P s d
-result-is P s (bad n) = refl
-result-is P s (good c) = refl
 
 -- the state that the store shows after a list of steps from a start
 reached : (P : Placement) → placementRefusal P ≡ 0 → (m : Store) (steps : List RawStep) → At P (storeAfter (started P m) steps) (finalFrom P begin steps)
@@ -28,5 +26,5 @@ never-six = record {
   outcome = λ P ok m steps a e.
       let z = reached P ok m steps in
       let k = step-follows (storeAfter (started P m) steps .registers) (storeAfter (started P m) steps .channel) P (finalFrom P begin steps) z a in
-      never-6 P ok steps a (sym (ap (λ r. r .result) (k .answer=) ∙ result-is P (finalFrom P begin steps) (decode P a)) ∙ e);
+      never-6 P ok steps a (refused-number P (finalFrom P begin steps) (decode P a) 6 (not-zero-refused 6 (omega arith) (λ q. omega arith)) .0 (sym (ap (λ r. r .result) (k .answer=)) ∙ e));
 }

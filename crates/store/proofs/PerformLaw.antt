@@ -126,7 +126,7 @@ module _ (rs cs : List ℕ) (P : Placement) (s : Published) (z : Ready rs cs P s
     perform-follows =
         let e = z .fit .doing t there in
         let q = z .show .status= t there in
-        follows rs cs P s z (performNumber rs t) (performWords rs t) cs (perform t) refl
+        follows rs cs P s z (performNumber rs t) (performWords rs t) cs (perform t) (refl, refl)
         (rw q (number-of (doingAt rs t) e))
         (λ n. rw q (ready-of (doingAt rs t) e n))
         (λ n. (refused-of (doingAt rs t) n, refl))

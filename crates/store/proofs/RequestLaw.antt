@@ -6,11 +6,14 @@ use mathlib.Core.Bool.{Bool, true, false, cond}
 use mathlib.Core.List.{List}
 use native.Mathlib.Numerals.{add-one}
 use native.Mathlib.Omega.{arith}
-use borrow.Author.Tests.{ltb-true, lt-ltb, ne-eqb, eqb-true}
+use borrow.Author.Tests.{ltb-true, lt-ltb, ne-eqb}
 use lib.Dec.{eqb, ltb}
 use lib.ListN.{set, length-set}
+use Rattle.lists.specs.Tests.{clash}
 use Rattle.names.specs.declared.Register.{Register}
 use Rattle.names.specs.Placement.{Placement}
+use Rattle.names.specs.Results.{isTaken}
+use Rattle.names.proofs.Results.{taken-small, result-plain}
 use Rattle.automaton.specs.Refusals.{otherwise}
 use Rattle.channel.specs.Layout.{cardsOf, tasksOf, registersOf}
 use Rattle.channel.proofs.Offered.{cards-most, tasks-most, registers-most}
@@ -18,7 +21,8 @@ use Rattle.claims.specs.Command.{request-read, request-update, report}
 use Rattle.claims.specs.Steps.{good}
 use Rattle.claims.specs.Refusals.{requestRefusal, reportRefusal}
 use Rattle.claims.specs.Published.{Published, setStatus, requesting, effect, stage}
-use Rattle.claims.specs.PublishedRun.{valueOf}
+use Rattle.claims.specs.PublishedRun.{valueOf, answerDecoded}
+use Rattle.claims.proofs.Results.{command-small}
 use Rattle.tables.specs.declared.Doing.{Doing}
 use Rattle.tables.specs.declared.Doing.the-variants.{Quiet, AskingRead, AskingUpdate, Waiting, DoneRead, DoneUpdate}
 use Rattle.tables.specs.Layout.{requestsWord, requestsOf}
@@ -93,14 +97,14 @@ module _ (rs cs : List ℕ) (P : Placement) (s : Published) (z : Ready rs cs P s
       → StepFollows rs cs P s (outcome (requestNumber rs t) (requestWords rs t (AskingRead x)) cs) (good (request-read t (x .0)))
   unfolding doingFits statusOf
   request-read-follows x h =
-      follows rs cs P s z (requestNumber rs t) (requestWords rs t (AskingRead x)) cs (request-read t (x .0)) refl request-number
+      follows rs cs P s z (requestNumber rs t) (requestWords rs t (AskingRead x)) cs (request-read t (x .0)) (refl, refl) request-number
       (λ n. asked (AskingRead x) (lt-ltb _ _ h) n) (λ n. (refused-words (AskingRead x) n, refl))
 
   pub request-update-follows : (x : Register) (f w : ℕ) → doingFits cs (AskingUpdate x f w) ≡ true
       → StepFollows rs cs P s (outcome (requestNumber rs t) (requestWords rs t (AskingUpdate x f w)) cs) (good (request-update t (x .0) f w))
   unfolding statusOf
   request-update-follows x f w h =
-      follows rs cs P s z (requestNumber rs t) (requestWords rs t (AskingUpdate x f w)) cs (request-update t (x .0) f w) refl request-number
+      follows rs cs P s z (requestNumber rs t) (requestWords rs t (AskingUpdate x f w)) cs (request-update t (x .0) f w) (refl, refl) request-number
       (λ n. asked (AskingUpdate x f w) h n) (λ n. (refused-words (AskingUpdate x f w) n, refl))
 
   -- ---- step 10
@@ -132,16 +136,22 @@ module _ (rs cs : List ℕ) (P : Placement) (s : Published) (z : Ready rs cs P s
 
   pub report-follows : StepFollows rs cs P s (record { answer = reportAnswer rs t; registers = reportWords rs t; channel = cs }) (good (report t))
   unfolding reportWords statusOf doingFits
-  report-follows = go (eqb (reportAnswer rs t .result) 0) refl
+  report-follows = go (isTaken (reportAnswer rs t .result)) refl
     where
-      go : (b : Bool) → eqb (reportAnswer rs t .result) 0 ≡ b → StepFollows rs cs P s (record { answer = reportAnswer rs t; registers = reportWords rs t; channel = cs }) (good (report t))
+      same : reportAnswer rs t ≡ answerDecoded P s (good (report t))
+      same = report-answer ∙ ap (λ m. record { result = m; value = cond (eqb (reportRefusal (stage P (s .status t))) 0) (valueOf (s .status t)) 0 }) (sym (result-plain (reportRefusal (stage P (s .status t)))))
+
+      test : isTaken (reportAnswer rs t .result) ≡ eqb (reportRefusal (stage P (s .status t))) 0
+      test = ap isTaken report-number ∙ taken-small (reportRefusal (stage P (s .status t))) (command-small P s (report t))
+
+      go : (b : Bool) → isTaken (reportAnswer rs t .result) ≡ b → StepFollows rs cs P s (record { answer = reportAnswer rs t; registers = reportWords rs t; channel = cs }) (good (report t))
       go true q = record {
-        answer= = report-answer;
-        stands = rw (← report-number, q) (stands (doingStored rs t Quiet) cs P (effect P s (report t)) (doing-ready Quiet refl));
-        refused = λ n. absurd (n (eqb-true _ 0 q));
+        answer= = same;
+        stands = rw (← test, q) (stands (doingStored rs t Quiet) cs P (effect P s (report t)) (doing-ready Quiet refl));
+        refused = λ n. absurd (clash q n);
       }
       go false q = record {
-        answer= = report-answer;
-        stands = rw (← report-number, q) (stands rs cs P s z);
+        answer= = same;
+        stands = rw (← test, q) (stands rs cs P s z);
         refused = λ n. rw q (refl, refl);
       }

@@ -113,7 +113,7 @@ module _ (rs cs : List ℕ) (P : Placement) (s : Published) (z : Ready rs cs P s
     send-read-follows =
         let e = z .fit .doing t there in
         let q = z .show .status= t there in
-        follows rs cs P s z (readSentNumber rs t j) (readSentWords rs t j) cs (send-read t j) refl
+        follows rs cs P s z (readSentNumber rs t j) (readSentWords rs t j) cs (send-read t j) (refl, refl)
         (rw q (read-number-of (doingAt rs t) e))
         (λ n. rw q (read-ready-of (doingAt rs t) e n))
         (λ n. (read-refused-of (doingAt rs t) n, refl))
@@ -183,7 +183,7 @@ module _ (rs cs : List ℕ) (P : Placement) (s : Published) (z : Ready rs cs P s
   send-update-follows =
       let e = z .fit .doing t there in
       let q = z .show .status= t there in
-      follows rs cs P s z (updateSentNumber rs t) (updateSentWords rs t) cs (send-update t) refl
+      follows rs cs P s z (updateSentNumber rs t) (updateSentWords rs t) cs (send-update t) (refl, refl)
       (rw q (update-number-of (doingAt rs t) e))
       (λ n. rw q (update-ready-of (doingAt rs t) e n))
       (λ n. (update-refused-of (doingAt rs t) n, refl))

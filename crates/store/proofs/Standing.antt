@@ -1,21 +1,25 @@
 -- Well-sized memories that show a state, taken apart; and a step's law from its parts.
 use Prim.Native.Nat.{ℕ, _<_}
-use mathlib.Core.Path.{_≡_, refl}
+use mathlib.Core.Path.{_≡_, refl, sym, ap, _∙_}
 use mathlib.Core.Logic.{_≢_}
 use mathlib.Core.Bool.{Bool, true, false, cond}
 use mathlib.Core.List.{List}
-use borrow.Author.Tests.{lt-ltb, eqb-true, eq-eqb}
+use borrow.Author.Tests.{lt-ltb, eqb-true}
 use lib.Dec.{eqb}
 use lib.ListN.{length}
-use Rattle.lists.specs.Tests.{and-fst, and-snd, and-intro, clash}
+use Rattle.lists.specs.Tests.{and-fst, and-snd, and-intro}
 use Rattle.lists.specs.Listings.{listing-length}
 use Rattle.names.specs.Placement.{Placement, tasks, registers, home, copy}
+use Rattle.names.specs.Results.{isTaken, resultFrom}
+use Rattle.names.proofs.Results.{taken-small, refused-not-zero, result-plain}
 use Rattle.channel.specs.Layout.{channelWords, cardsOf, tasksOf, registersOf}
 use Rattle.channel.specs.Sized.{wellSized}
 use Rattle.claims.specs.Command.{Command}
 use Rattle.claims.specs.Steps.{good}
-use Rattle.claims.specs.Published.{Published, effect, commandRefusal}
-use Rattle.claims.specs.PublishedRun.{valueAt}
+use Rattle.claims.specs.Published.{Published, mail, answered, effect, sight, commandRefusal}
+use Rattle.claims.specs.PublishedRun.{valueAt, commandResult}
+use Rattle.claims.specs.Results.{holding}
+use Rattle.claims.proofs.Results.{taken-result, command-small}
 use Rattle.tables.specs.Layout.{holds}
 use Rattle.tables.specs.Outbox.{outCountOf}
 use Rattle.tables.specs.Sized.{registersSized, storeSized}
@@ -91,9 +95,9 @@ module _ (rs cs : List ℕ) (P : Placement) (s : Published) (z : Ready rs cs P s
   }
 
   -- a step that gives no value
-  pub follows : (n : ℕ) (us ds : List ℕ) (c : Command) → valueAt s c ≡ 0 → n ≡ commandRefusal P s c
-      → (n ≡ 0 → Ready us ds P (effect P s c)) → (n ≢ 0 → (us ≡ rs) × (ds ≡ cs)) → StepFollows rs cs P s (outcome n us ds) (good c)
-  follows n us ds c v e f g = go (eqb n 0) refl
+  pub follows-any : (n : ℕ) (us ds : List ℕ) (c : Command) → valueAt s c ≡ 0 → n ≡ commandResult P s c
+      → (isTaken n ≡ true → Ready us ds P (effect P s c)) → (isTaken n ≡ false → (us ≡ rs) × (ds ≡ cs)) → StepFollows rs cs P s (outcome n us ds) (good c)
+  follows-any n us ds c v e f g = go (isTaken n) refl
     where
       value-is : cond (eqb (commandRefusal P s c) 0) (valueAt s c) 0 ≡ 0
       value-is = rw v (same (eqb (commandRefusal P s c) 0))
@@ -102,16 +106,27 @@ module _ (rs cs : List ℕ) (P : Placement) (s : Published) (z : Ready rs cs P s
           same true = refl
           same false = refl
 
-      go : (b : Bool) → eqb n 0 ≡ b → StepFollows rs cs P s (outcome n us ds) (good c)
+      -- it is taken exactly if nothing refuses it
+      test : isTaken n ≡ eqb (commandRefusal P s c) 0
+      test = ap isTaken e ∙ taken-result P mail (answered P) (sight P s) c
+
+      go : (b : Bool) → isTaken n ≡ b → StepFollows rs cs P s (outcome n us ds) (good c)
       go true q = record {
         answer= = rw (value-is, ← e);
-        stands = rw (← e, q) (stands us ds P (effect P s c) (f (eqb-true n 0 q)));
+        stands = rw (← test, q) (stands us ds P (effect P s c) (f q));
         refused = g;
       }
       go false q =
-          let k = g (λ a. clash (eq-eqb n 0 a) q) in
+          let k = g q in
           record {
             answer= = rw (value-is, ← e);
-            stands = rw (← e, q, k .0, k .1) (stands rs cs P s z);
+            stands = rw (← test, q, k .0, k .1) (stands rs cs P s z);
             refused = g;
           }
+
+  -- and holds no message: its number is its refusal
+  pub follows : (n : ℕ) (us ds : List ℕ) (c : Command) → (valueAt s c ≡ 0) × (holding mail (sight P s) c ≡ false) → n ≡ commandRefusal P s c
+      → (n ≡ 0 → Ready us ds P (effect P s c)) → (n ≢ 0 → (us ≡ rs) × (ds ≡ cs)) → StepFollows rs cs P s (outcome n us ds) (good c)
+  follows n us ds c v e f g =
+      follows-any n us ds c (v .0) (e ∙ sym (result-plain (commandRefusal P s c)) ∙ ap (resultFrom (commandRefusal P s c)) (sym (v .1)))
+      (λ t. f (eqb-true n 0 (sym (taken-small n (rw e (command-small P s c))) ∙ t))) (λ t. g (refused-not-zero n t))

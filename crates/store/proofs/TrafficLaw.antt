@@ -1,6 +1,6 @@
 -- Steps 6, 7 and 8.
 use Prim.Native.Nat.{ℕ, zero, suc, _+_, _%_, _<_}
-use mathlib.Core.Path.{_≡_, refl, sym, _∙_}
+use mathlib.Core.Path.{_≡_, refl, sym, ap, _∙_}
 use mathlib.Core.Bool.{true, false}
 use mathlib.Core.List.{List, [], _∷_}
 use native.Mathlib.Omega.{arith}
@@ -8,11 +8,14 @@ use borrow.Author.Tests.{lt-ltb, ne-eqb}
 use lib.Dec.{eqb}
 use lib.ListN.{length}
 use Rattle.lists.specs.Listings.{listing-zero}
+use Rattle.lists.specs.Tests.{clash}
 use Rattle.names.specs.declared.Card.{Card}
 use Rattle.names.specs.declared.Task.{Task}
 use Rattle.names.specs.declared.Letter.{Letter}
 use Rattle.names.specs.Letters.{packetAt}
 use Rattle.names.specs.Placement.{Placement}
+use Rattle.names.specs.Results.{isTaken}
+use Rattle.names.proofs.Results.{not-zero-refused, result-plain}
 use Rattle.automaton.specs.State.{ChannelState, ChannelAction, dispatch, takeBroadcast, takeSingle, channelStep}
 use Rattle.channel.specs.Layout.{channelWords, cardsOf, tasksOf, registersOf}
 use Rattle.channel.specs.Letters.{fits}
@@ -23,7 +26,7 @@ use Rattle.channel.specs.TakeSingle.{singleAnswer, singleMemory}
 use Rattle.channel.specs.Sized.{wellSized}
 use Rattle.channel.specs.MemoryCalls.{SameSizes}
 use Rattle.channel.proofs.Offered.{cards-most, tasks-most, registers-most, same-cards, same-tasks, same-registers, packet-sizes, packet-letter}
-use Rattle.channel.proofs.OfferedCalls.{dispatch-passes, take-broadcast-passes, take-single-passes, dispatch-refusal, take-broadcast-refusal, take-single-refusal}
+use Rattle.channel.proofs.OfferedCalls.{dispatch-passes, take-broadcast-passes, take-single-passes, dispatch-result, take-broadcast-result, take-single-result}
 use Rattle.claims.specs.Command as Step
 use Rattle.claims.specs.Steps.{good}
 use Rattle.claims.specs.Published.{Published, mail, withChannel, dispatching}
@@ -41,7 +44,7 @@ use Rattle.tables.proofs.Words.{unposted-long, unpost-drops}
 use Rattle.tables.proofs.Showing.{unpost-show}
 use Rattle.tables.proofs.Sizing.{RegistersFit, unpost-fit}
 use Rattle.store.proofs.OverChannel.{Goes, goes}
-use Rattle.store.proofs.Standing.{Ready, follows}
+use Rattle.store.proofs.Standing.{Ready, follows-any}
 
 -- ---- another channel's memory of the same sizes
 
@@ -118,8 +121,8 @@ module _ (rs cs : List ℕ) (P : Placement) (s : Published) (z : Ready rs cs P s
   take-broadcast-follows i h =
       let k = goes cs (s .channel) (z .channel-shows) (takeBroadcast (i .0)) (answerNumber (takeAnswer cs i)) (takeMemory cs i)
       (take-broadcast-passes cs (z .channel-shows .letters) (z .channel-long) (z .channel-fit) (z .channel-shows .shows) i h) in
-      follows rs cs P s z (answerNumber (takeAnswer cs i)) rs (takeMemory cs i) (Step.takeBroadcast (i .0)) refl
-      (rw (z .cards=) (k .number ∙ take-broadcast-refusal mail (cardsOf cs) (s .channel) (i .0)))
+      follows-any rs cs P s z (answerNumber (takeAnswer cs i)) rs (takeMemory cs i) (Step.takeBroadcast (i .0)) refl
+      (rw (z .cards=) (k .number ∙ take-broadcast-result mail (cardsOf cs) (s .channel) (i .0)))
       (λ n. called-ready (takeBroadcast (i .0)) (answerNumber (takeAnswer cs i)) (takeMemory cs i) k _ (k .shows n))
       (λ n. (refl, k .untouched n))
 
@@ -127,8 +130,8 @@ module _ (rs cs : List ℕ) (P : Placement) (s : Published) (z : Ready rs cs P s
   take-single-follows t h =
       let k = goes cs (s .channel) (z .channel-shows) (takeSingle (t .0)) (answerNumber (singleAnswer cs t)) (singleMemory cs t)
       (take-single-passes cs (z .channel-shows .letters) (z .channel-long) (z .channel-fit) (z .channel-shows .shows) t h) in
-      follows rs cs P s z (answerNumber (singleAnswer cs t)) rs (singleMemory cs t) (Step.takeSingle (t .0)) refl
-      (rw (z .cards=) (k .number ∙ take-single-refusal mail (cardsOf cs) (s .channel) (t .0)))
+      follows-any rs cs P s z (answerNumber (singleAnswer cs t)) rs (singleMemory cs t) (Step.takeSingle (t .0)) refl
+      (rw (z .cards=) (k .number ∙ take-single-result mail (cardsOf cs) (s .channel) (t .0)))
       (λ n. called-ready (takeSingle (t .0)) (answerNumber (singleAnswer cs t)) (singleMemory cs t) k _ (k .shows n))
       (λ n. (refl, k .untouched n))
 
@@ -167,7 +170,7 @@ module _ (rs cs : List ℕ) (P : Placement) (s : Published) (z : Ready rs cs P s
         (dispatch-passes cs (z .channel-shows .letters) (z .channel-long) (z .channel-fit) (z .channel-shows .shows) i (first .message) (first .to) card (head-goes n e))
 
     -- the head gone, and dispatched
-    dispatched : (n : ℕ) (e : outCountOf rs (i .0) ≡ suc n) → number ≡ 0
+    dispatched : (n : ℕ) (e : outCountOf rs (i .0) ≡ suc n) → isTaken number ≡ true
         → Ready (unposted rs (i .0)) left P (dispatching P s (i .0) (plain first ∷ outboxOf (unposted rs (i .0)) (i .0)))
     dispatched n e q =
         let k = head-called n e in
@@ -183,16 +186,19 @@ module _ (rs cs : List ℕ) (P : Placement) (s : Published) (z : Ready rs cs P s
       where
         go : (n : ℕ) → outCountOf rs (i .0) ≡ n → StepFollows rs cs P s (outcome (dispatchNumber rs cs i) (dispatchRegisters rs cs i) (dispatchChannel rs cs i)) (good (Step.dispatch (i .0)))
         go zero e =
-            follows rs cs P s z (dispatchNumber rs cs i) (dispatchRegisters rs cs i) (dispatchChannel rs cs i) (Step.dispatch (i .0)) refl
-            (rw (e, out-none e)) (λ q. absurd (none q)) (λ q. rw e (refl, refl))
+            follows-any rs cs P s z (dispatchNumber rs cs i) (dispatchRegisters rs cs i) (dispatchChannel rs cs i) (Step.dispatch (i .0)) refl
+            (thirty ∙ sym (result-plain 30) ∙ rw (out-none e)) (λ q. absurd (clash q none)) (λ q. rw (q, e) (refl, refl))
           where
-            none : dispatchNumber rs cs i ≡ 0 → ⊥
-            none q = let r : _≡_ {A = ℕ} 30 0 = rw e at q in omega arith
+            thirty : dispatchNumber rs cs i ≡ 30
+            thirty = rw e
+
+            none : isTaken (dispatchNumber rs cs i) ≡ false
+            none = ap isTaken thirty ∙ not-zero-refused 30 (omega arith) (λ q. omega arith)
         go (suc n) e =
             let k = head-called n e in
             let f : eqb (outCountOf rs (i .0)) 0 ≡ false = ne-eqb (outCountOf rs (i .0)) 0 (omega arith) in
             let same : dispatchNumber rs cs i ≡ number = rw f in
-            follows rs cs P s z (dispatchNumber rs cs i) (dispatchRegisters rs cs i) (dispatchChannel rs cs i) (Step.dispatch (i .0)) refl
-            (rw (f, out-head n e, z .cards=) (k .number ∙ dispatch-refusal mail (cardsOf cs) (s .channel) (i .0) (plain first)))
-            (λ q. rw (q, f, out-head n e) (dispatched n e (sym same ∙ q)))
-            (λ q. rw (ne-eqb (dispatchNumber rs cs i) 0 q, f) (refl, k .untouched (λ r. q (same ∙ r))))
+            follows-any rs cs P s z (dispatchNumber rs cs i) (dispatchRegisters rs cs i) (dispatchChannel rs cs i) (Step.dispatch (i .0)) refl
+            (rw (f, out-head n e, z .cards=) (k .number ∙ dispatch-result mail (cardsOf cs) (s .channel) (i .0) (plain first)))
+            (λ q. rw (q, f, out-head n e) (dispatched n e (ap isTaken (sym same) ∙ q)))
+            (λ q. rw (q, f) (refl, k .untouched (ap isTaken (sym same) ∙ q)))

@@ -2,11 +2,11 @@
 -- reached ones; and refuses where RULES 8 says, with the number that it says, leaving both memories as they were.
 use Prim.Native.Nat.{ℕ}
 use mathlib.Core.Path.{_≡_}
-use mathlib.Core.Logic.{_≢_}
 use mathlib.Core.Bool.{false, true}
 use mathlib.Core.List.{List}
 use lib.ListN.{length}
 use Rattle.names.specs.Placement.{Placement}
+use Rattle.names.specs.Results.{isTaken}
 use Rattle.channel.specs.Layout.{channelWords}
 use Rattle.claims.specs.Steps.{RawStep, Decoded, decode}
 use Rattle.claims.specs.Published.{Published}
@@ -24,12 +24,12 @@ pub record Stands (rs cs : List ℕ) (P : Placement) (s : Published) : Type 0 wh
 
 -- what a step leaves of memories that show P and s, where it is d
 pub record StepFollows (rs cs : List ℕ) (P : Placement) (s : Published) (o : Outcome) (d : Decoded) : Type 0 where
-  -- the refusal of the published state, or 0 and the value read
+  -- the refusal of the published state, or 0 and the value read, or 100 where the published move holds a message
   pub answer= : o .answer ≡ answerDecoded P s d
   -- the memories show the published state after the step, and are well sized
   pub stands : Stands (o .registers) (o .channel) P (afterDecoded P s d)
   -- a refused step leaves the store as it was (RULES 8.1)
-  pub refused : o .answer .result ≢ 0 → (o .registers ≡ rs) × (o .channel ≡ cs)
+  pub refused : isTaken (o .answer .result) ≡ false → (o .registers ≡ rs) × (o .channel ≡ cs)
 
 pub record Demand2 : Type 0 where
   pub some : (rs cs : List ℕ) → (P : Placement) × (s : Published) × StoreShows rs cs P s

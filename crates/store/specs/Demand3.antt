@@ -14,6 +14,6 @@ abbrev pub Demand3 : Type 0
 Demand3 = (P : Placement) → placementRefusal P ≡ 0 → (m : Store) (steps : List RawStep)
     → (order : List ℕ) × SerialOrder P steps (answersOf (started P m) steps) (tableOf (storeAfter (started P m) steps)) order
 
--- The ledger takes the steps that the store takes (RULES 12.3): the store's result at each step is the ledger's number, 0 or the refusal.
+-- The ledger takes the steps that the store takes (RULES 12.3): the store's result at each step is the ledger's, 0, 100 or the refusal.
 abbrev pub LedgerResults : Type 0
 LedgerResults = (P : Placement) → placementRefusal P ≡ 0 → (m : Store) (steps : List RawStep) → LedgerNumbers P steps (answersOf (started P m) steps)

@@ -15,6 +15,7 @@ use Rattle.automaton.specs.State.{Tagged, released, ripe}
 use Rattle.automaton.specs.MostBehind.{mostBehind}
 use Rattle.claims.specs.Command.{request-read, send-read, dispatch, takeBroadcast, takeSingle}
 use Rattle.claims.specs.Published.{Published, Letter, quiet, askingRead, mail, commandRefusal}
+use Rattle.claims.specs.PublishedRun.{commandResult}
 
 module _ (P : Placement) (s : Published) where
   -- broadcasts made
@@ -50,11 +51,11 @@ module _ (P : Placement) (s : Published) where
         → commandRefusal P s (takeBroadcast i) ≡ 0)
         × (length (filter (mail .multi) (s .channel .inbox i)) ≡ 31 → length (push true m (s .channel .inbox i) ++ released (suc (s .channel .taken i)) (s .channel .held i)) ≡ 49
         → commandRefusal P s (takeBroadcast i) ≡ 6)
-    -- an inbox at step 8 (7.2)
+    -- an inbox at step 8 (7.2): the 48th message joins it
     pub inbox : (c : ℕ) (x : Tagged Letter) → s .channel .flight c ≡ some x → ripe mail (s .channel) x ≡ true
-        → (length (s .channel .inbox (soleOf (x .msg .to))) ≡ 47 → commandRefusal P s (takeSingle c) ≡ 0)
-        × (length (s .channel .inbox (soleOf (x .msg .to))) ≡ 48 → commandRefusal P s (takeSingle c) ≡ 6)
-    -- held messages (7.3)
+        → (length (s .channel .inbox (soleOf (x .msg .to))) ≡ 47 → commandResult P s (takeSingle c) ≡ 0)
+        × (length (s .channel .inbox (soleOf (x .msg .to))) ≡ 48 → commandResult P s (takeSingle c) ≡ 6)
+    -- held messages (7.3): the 16th is held
     pub held : (c : ℕ) (x : Tagged Letter) → s .channel .flight c ≡ some x → ripe mail (s .channel) x ≡ false
-        → (length (s .channel .held (soleOf (x .msg .to))) ≡ 15 → commandRefusal P s (takeSingle c) ≡ 0)
-        × (length (s .channel .held (soleOf (x .msg .to))) ≡ 16 → commandRefusal P s (takeSingle c) ≡ 6)
+        → (length (s .channel .held (soleOf (x .msg .to))) ≡ 15 → commandResult P s (takeSingle c) ≡ 100)
+        × (length (s .channel .held (soleOf (x .msg .to))) ≡ 16 → commandResult P s (takeSingle c) ≡ 6)

@@ -5,6 +5,7 @@ use mathlib.Core.List.{List}
 use lib.Dec.{eqb, ltb}
 use lib.ListN.{set}
 use Rattle.names.specs.declared.Answer.{Answer}
+use Rattle.names.specs.Results.{isTaken}
 use Rattle.tables.specs.declared.Doing.{Doing}
 use Rattle.tables.specs.declared.Doing.the-variants.{Quiet, AskingRead, AskingUpdate, Waiting, DoneRead, DoneUpdate}
 use Rattle.tables.specs.Layout.{requestsWord, requestsOf}
@@ -43,4 +44,4 @@ unfoldable pub reportAnswer : List ℕ → ℕ → Answer
 reportAnswer ws t = reportOf (doingAt ws t)
 
 unfoldable pub reportWords : List ℕ → ℕ → List ℕ
-reportWords ws t = cond (eqb (reportAnswer ws t .result) 0) (doingStored ws t Quiet) ws
+reportWords ws t = cond (isTaken (reportAnswer ws t .result)) (doingStored ws t Quiet) ws

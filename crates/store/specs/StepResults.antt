@@ -3,12 +3,14 @@
 use Prim.Native.Nat.{ℕ}
 use mathlib.Core.Path.{_≡_}
 use mathlib.Core.Logic.{_⊎_, _↔_}
-use mathlib.Core.Bool.{true}
+use mathlib.Core.Bool.{false, true}
 use mathlib.Core.List.{List}
 use Rattle.names.specs.Placement.{Placement}
+use Rattle.names.specs.Results.{isTaken}
 use Rattle.claims.specs.Command.{Command}
 use Rattle.claims.specs.Steps.{RawStep, good, decode}
 use Rattle.claims.specs.Published.{Published}
+use Rattle.claims.specs.Held.{Eight, Holds, LetsJoin}
 use Rattle.claims.specs.Allowed.{allowed, within}
 use Rattle.claims.specs.Numbers.{Misformed, Comes}
 use Rattle.tables.specs.Sized.{storeSized}
@@ -20,11 +22,17 @@ abbrev pub resultOf : List ℕ → List ℕ → RawStep → ℕ
 resultOf rs cs a = stepped rs cs (a .code) (a .argument) .answer .result
 
 pub record StepResults : Type 0 where
-  -- 0 exactly if the step decodes to a command that the algorithm allows within the limits
+  -- taken, with 0 or 100, exactly if the step decodes to a command that the algorithm allows within the limits
   pub taken : (rs cs : List ℕ) (P : Placement) (s : Published) → Stands rs cs P s → (a : RawStep)
-      → (resultOf rs cs a ≡ 0) ↔ ((c : Command) × (decode P a ≡ good c) × (allowed P s c ≡ true) × (within P s c ≡ true))
+      → (isTaken (resultOf rs cs a) ≡ true) ↔ ((c : Command) × (decode P a ≡ good c) × (allowed P s c ≡ true) × (within P s c ≡ true))
+  -- 100 exactly if the step is an 8 whose message the published move puts into ppwait of its destination (RULES 5.8)
+  pub held : (rs cs : List ℕ) (P : Placement) (s : Published) → Stands rs cs P s → (a : RawStep)
+      → (resultOf rs cs a ≡ 100) ↔ Holds P s a
+  -- an 8 answers 0 exactly if its message joins the inbox there
+  pub joins : (rs cs : List ℕ) (P : Placement) (s : Published) → Stands rs cs P s → (a : RawStep) (t : ℕ) → Eight P a t
+      → (resultOf rs cs a ≡ 0) ↔ LetsJoin P s a
   -- another number exactly if the step is misformed so, or decodes to a command for which that number comes
-  pub refused : (rs cs : List ℕ) (P : Placement) (s : Published) → Stands rs cs P s → (a : RawStep) (n : ℕ) → ¬ (n ≡ 0)
+  pub refused : (rs cs : List ℕ) (P : Placement) (s : Published) → Stands rs cs P s → (a : RawStep) (n : ℕ) → isTaken n ≡ false
       → (resultOf rs cs a ≡ n) ↔ (Misformed P a n ⊎ ((c : Command) × (decode P a ≡ good c) × Comes P s n c))
   -- a step that does not check the state first is the same step, on every well-sized pair (RULES 11.10)
   pub unchecked : (rs cs : List ℕ) → storeSized rs cs ≡ true → (a : RawStep) → advanced rs cs (a .code) (a .argument) ≡ stepped rs cs (a .code) (a .argument)

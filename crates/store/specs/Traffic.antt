@@ -5,6 +5,7 @@ use mathlib.Core.List.{List}
 use lib.Dec.{eqb}
 use Rattle.names.specs.declared.Card.{Card}
 use Rattle.names.specs.declared.Letter.{Letter}
+use Rattle.names.specs.Results.{isTaken}
 use Rattle.channel.specs.declared.Answer.{Answer}
 use Rattle.channel.specs.Answers.{answerNumber}
 use Rattle.channel.specs.Dispatch.{dispatchAnswer, dispatchMemory}
@@ -23,7 +24,7 @@ dispatchNumber rs cs card = cond (eqb (outCountOf rs (card .0)) 0) 30 (answerNum
 
 -- the registers' words, then the channel's
 unfoldable pub dispatchRegisters : List ℕ → List ℕ → Card → List ℕ
-dispatchRegisters rs cs card = cond (eqb (dispatchNumber rs cs card) 0) (unposted rs (card .0)) rs
+dispatchRegisters rs cs card = cond (isTaken (dispatchNumber rs cs card)) (unposted rs (card .0)) rs
 
 unfoldable pub dispatchChannel : List ℕ → List ℕ → Card → List ℕ
 dispatchChannel rs cs card = cond (eqb (outCountOf rs (card .0)) 0) cs (handedMemory cs card (firstOut rs (card .0)))

@@ -59,7 +59,7 @@ pub(crate) fn report(registers: &mut [u32; 593], task: Task) -> Answer
     ensures answer { λ r. ⌜ r ≡ reportAnswer (now (registers .entry)) (task .0) ⌝ }
 {
     let answer = report_of(load(registers, task));
-    if answer.result == 0 {
+    if names::is_taken(answer.result) {
         store(registers, task, Doing::Quiet);
         return answer;
     }

@@ -9,12 +9,13 @@ use tables::outbox::count;
 use tables::outbox::first;
 use tables::outbox::unpost;
 
-// The number of the channel's answer (RULES 8.2).
+// The number of the channel's answer (RULES 5.8, 8.2).
 pub(crate) fn number_of(answer: channel::Answer) -> u8
     ensures { λ r. ⌜ r ≡ answerNumber answer ⌝ }
 {
     match answer {
         channel::Answer::Done => 0,
+        channel::Answer::Held => 100,
         channel::Answer::BadSize => 3,
         channel::Answer::IllSized => 6,
         channel::Answer::NoTask => 12,
@@ -49,7 +50,7 @@ pub(crate) fn dispatch(
     }
     let packet = first(registers, card);
     let number = number_of(hand_over(channel, card, packet));
-    if number == 0 {
+    if names::is_taken(number) {
         unpost(registers, card);
         return number;
     }

@@ -4,28 +4,36 @@ use Prim.Native.Nat.{ℕ, _+_, _≤_, _<_}
 use mathlib.Core.Path.{_≡_, refl, sym, ap, ap₂, _∙_}
 use mathlib.Core.Bool.{Bool, true, false, cond, not}
 use mathlib.Core.List.{List, [], _∷_}
+use mathlib.Core.Logic.{_⊎_}
 use native.Mathlib.Omega.{arith}
 use lib.ListN.{length}
-use borrow.Author.Tests.{ne-eqb}
 use Rattle.lists.specs.Filters.{keep, filter}
+use Rattle.lists.specs.Tests.{false-of}
+use Rattle.names.specs.Results.{isTaken}
 use Rattle.names.specs.Update.{raised}
+use Rattle.names.proofs.Results.{results-meaning}
 use Rattle.names.proofs.Raised.{raised-below, raised-past, raised-most, raised-again}
 use Rattle.tally.specs.declared.Tally.{Tally}
-use Rattle.tally.specs.Tally.{tallyOf, counted, isTaken, countedStep, countedSteps, takenIn, refusedIn}
+use Rattle.tally.specs.Tally.{tallyOf, counted, countedStep, countedSteps, takenIn, refusedIn}
 
 -- each count is a 32-bit number
 abbrev pub Fits : Tally → Type 0
 Fits t = (t .taken ≤ 4294967295) × (t .refused ≤ 4294967295)
 
--- a step taken raises the one count by one and leaves the other, below the largest value
-pub step-taken : (t : Tally) → t .taken < 4294967295 → t .refused ≤ 4294967295 → countedStep t 0 ≡ tallyOf (t .taken + 1) (t .refused)
-unfolding countedStep isTaken counted
-step-taken t h g = ap₂ tallyOf (raised-below (t .taken) 1 (omega arith)) (omega (arith, raised-below (t .refused) 0 (omega arith)))
+-- a step taken, with 0 or with 100, raises the one count by one and leaves the other, below the largest value
+pub step-taken : (t : Tally) (result : ℕ) → (result ≡ 0) ⊎ (result ≡ 100) → t .taken < 4294967295 → t .refused ≤ 4294967295
+    → countedStep t result ≡ tallyOf (t .taken + 1) (t .refused)
+unfolding countedStep counted
+step-taken t result e h g =
+    rw (results-meaning .taken-if result .1 e) (ap₂ tallyOf (raised-below (t .taken) 1 (omega arith)) (omega (arith, raised-below (t .refused) 0 (omega arith))))
 
 -- every refusal counts, 6 too (RULES 9.3)
-pub step-refused : (t : Tally) (number : ℕ) → ¬ (number ≡ 0) → t .taken ≤ 4294967295 → t .refused < 4294967295 → countedStep t number ≡ tallyOf (t .taken) (t .refused + 1)
-unfolding countedStep isTaken counted
-step-refused t number n h g = rw (ne-eqb number 0 n) (ap₂ tallyOf (omega (arith, raised-below (t .taken) 0 (omega arith))) (raised-below (t .refused) 1 (omega arith)))
+pub step-refused : (t : Tally) (number : ℕ) → ¬ ((number ≡ 0) ⊎ (number ≡ 100)) → t .taken ≤ 4294967295 → t .refused < 4294967295
+    → countedStep t number ≡ tallyOf (t .taken) (t .refused + 1)
+unfolding countedStep counted
+step-refused t number n h g =
+    rw (false-of (isTaken number) (λ e. n (results-meaning .taken-if number .0 e)))
+    (ap₂ tallyOf (omega (arith, raised-below (t .taken) 0 (omega arith))) (raised-below (t .refused) 1 (omega arith)))
 
 -- past the largest value a count is the largest value, and stays there (RULES 9.2)
 pub counted-past : (t : Tally) (n m : ℕ) → (4294967295 ≤ t .taken + n → counted t n m .taken ≡ 4294967295) × (4294967295 ≤ t .refused + m → counted t n m .refused ≡ 4294967295)

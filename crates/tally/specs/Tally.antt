@@ -1,10 +1,10 @@
 -- A tally of steps taken and steps refused, lent by its owner and brought up to date in place (RULES 9.1 to 9.3).
 use Prim.Native.Nat.{ℕ}
-use mathlib.Core.Bool.{Bool, cond, not}
+use mathlib.Core.Bool.{cond, not}
 use mathlib.Core.List.{List, [], _∷_}
-use lib.Dec.{eqb}
 use lib.ListN.{length}
 use Rattle.lists.specs.Filters.{filter}
+use Rattle.names.specs.Results.{isTaken}
 use Rattle.names.specs.Update.{raised}
 use Rattle.tally.specs.declared.Tally.{Tally}
 
@@ -15,11 +15,7 @@ tallyOf a b = record { taken = a; refused = b }
 unfoldable pub counted : Tally → ℕ → ℕ → Tally
 counted t n m = record { taken = raised (t .taken) n; refused = raised (t .refused) m }
 
--- a step's result: 0 is taken, every other number a refusal, 6 too (RULES 9.3)
-unfoldable pub isTaken : ℕ → Bool
-isTaken result = eqb result 0
-
--- one step
+-- one step: taken, a held message too, or else refused, 6 too (RULES 9.3)
 unfoldable pub countedStep : Tally → ℕ → Tally
 countedStep t result = cond (isTaken result) (counted t 1 0) (counted t 0 1)
 

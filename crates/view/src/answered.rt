@@ -15,16 +15,24 @@ fn refused(page: &mut [u8; 65536], at: usize, result: u8) -> usize {
     phrase(page, a, result)
 }
 
-fn show(page: &mut [u8; 65536], at: usize, result: u8) -> usize {
+// Taken, or taken and its message held.
+fn taken(page: &mut [u8; 65536], at: usize, result: u8) -> usize {
     if result == 0 {
         return say(page, at, b"taken");
+    }
+    say(page, at, b"held")
+}
+
+fn show(page: &mut [u8; 65536], at: usize, result: u8) -> usize {
+    if names::is_taken(result) {
+        return taken(page, at, result);
     }
     refused(page, at, result)
 }
 
 // What each task asked last: the code of its last request taken, so that a report of a read is known from one of an update.
 fn note(requests: &mut [u8; 16], code: u32, task: u32, result: u8) {
-    if result != 0 {
+    if !names::is_taken(result) {
         return;
     }
     if 2 < code {
@@ -35,7 +43,7 @@ fn note(requests: &mut [u8; 16], code: u32, task: u32, result: u8) {
 
 // Whether the step is a taken report of a read.
 fn gave(requests: &[u8; 16], code: u32, task: u32, result: u8) -> bool {
-    if result != 0 {
+    if !names::is_taken(result) {
         return false;
     }
     if code != 10 {

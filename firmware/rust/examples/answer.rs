@@ -1,6 +1,6 @@
-//! Answers a run file: for each step that is taken its result and its value, for each that is
-//! refused a sentence, then how many were taken and how many refused; of a refused file its
-//! number.
+//! Answers a run file: for each step that is taken its result and its value, and whether its
+//! message is held, for each that is refused a sentence, then how many were taken and how many
+//! refused; of a refused file its number.
 //!
 //!   cargo run --offline --example answer ../../examples/k9.run
 
@@ -11,7 +11,7 @@ use std::path::Path;
 use std::process::ExitCode;
 
 use gondzselu::{answer_counted, check_library, sentence, Refusal, Tally};
-use gondzselu::{LONGEST_ANSWER, LONGEST_FILE};
+use gondzselu::{HELD, LONGEST_ANSWER, LONGEST_FILE};
 
 /// The file, or as much of one that is too long as shows that it is.
 fn read(name: &Path) -> io::Result<Vec<u8>> {
@@ -33,6 +33,7 @@ fn write(file: &[u8], out: &mut impl Write) -> io::Result<()> {
         let value = u32::from_le_bytes([value[0], value[1], value[2], value[3]]);
         match Refusal::from_number(result).and_then(|refusal| sentence(k, refusal)) {
             Some(words) => writeln!(out, "{words}")?,
+            None if result == HELD => writeln!(out, "step {k}: {result}, {value} (held)")?,
             None => writeln!(out, "step {k}: {result}, {value}")?,
         }
     }

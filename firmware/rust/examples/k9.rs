@@ -35,9 +35,9 @@ fn main() -> Result<(), Box<dyn Error>> {
     for (at, (words, step)) in steps.into_iter().enumerate() {
         let read = matches!(step, Step::Report { task } if matches!(store.task(task), DoneRead(_)));
         match store.step_counted(step, &mut tally) {
-            Err(refusal) => writeln!(out, "{at:2}  {words:40}{:2} refused", refusal.number())?,
-            Ok(value) if read => writeln!(out, "{at:2}  {words:40} 0 taken, value {value}")?,
-            Ok(_) => writeln!(out, "{at:2}  {words:40} 0 taken")?, // a reported update gives 0 too
+            Err(refusal) => writeln!(out, "{at:2}  {words:39}{:3} refused", refusal.number())?,
+            Ok(t) if read => writeln!(out, "{at:2}  {words:39}  0 {t}, value {}", t.value)?,
+            Ok(t) => writeln!(out, "{at:2}  {words:39}{:3} {t}", t.result())?, // taken, or held
         }
     }
     write!(out, "requests {}", store.requests())?;

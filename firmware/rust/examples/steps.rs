@@ -24,8 +24,8 @@ fn play(file: &[u8], out: &mut impl Write) -> Result<(), Box<dyn Error>> {
     let mut store = Store::start_from_file(file)?;
     for (k, (code, argument)) in (0..).zip(steps(file)) {
         match store.step_bytes(code, argument) {
-            Ok(value) if code == 10 => write!(out, "step {k}: taken, value {value}")?,
-            Ok(_) => write!(out, "step {k}: taken")?,
+            Ok(taken) if code == 10 => write!(out, "step {k}: taken, value {}", taken.value)?,
+            Ok(taken) => write!(out, "step {k}: {taken}")?, // or held
             Err(refusal) => match sentence(k, refusal) {
                 Some(words) => write!(out, "{words}")?,
                 None => write!(out, "step {k}: {refusal}")?,

@@ -38,11 +38,12 @@
 //! // Task 1 reads its own card's copy.
 //! store.step(Step::RequestRead { task: 1, register: 0 })?;
 //! store.step(Step::Perform { task: 1 })?;
-//! assert_eq!(store.step(Step::Report { task: 1 }), Ok(5));
+//! assert_eq!(store.step(Step::Report { task: 1 })?.value, 5);
 //! # Ok::<(), Refusal>(())
 //! ```
 //!
-//! A whole run file is answered by [`answer`], and written from a placement and [`Steps`] by
+//! A step that is taken gives [`Taken`]: the value read, and whether its message is held. A whole
+//! run file is answered by [`answer`], and written from a placement and [`Steps`] by
 //! [`write()`]. A refusal prints as a phrase; [`sentence()`] says it with the place of its step.
 //!
 //! # Memory
@@ -87,6 +88,7 @@ mod run;
 mod sentence;
 mod step;
 mod store;
+mod taken;
 mod write;
 
 pub use condition::Condition;
@@ -97,6 +99,7 @@ pub use run::{answer, answer_counted, Tally};
 pub use sentence::{sentence, sentence_bytes, Sentence};
 pub use step::{Function, Step};
 pub use store::{Placement, Store};
+pub use taken::{Taken, HELD};
 pub use write::{write, write_bytes, Steps};
 
 /// The examples of the README are run with the tests.

@@ -185,6 +185,7 @@ impl Memories {
     /// The library is checked before memories are first lent: `zero` alone makes some without
     /// a check, and all else that writes a word checks first. So where this word is not 0, the
     /// check was made. Every store of `zero` that is started has it made here.
+    #[inline]
     fn require(&self) {
         if self.channel[0] == 0 {
             library::require();
@@ -196,6 +197,7 @@ impl Memories {
         (self.registers.as_ptr(), self.channel.as_ptr())
     }
 
+    #[inline]
     fn lend_mut(&mut self) -> (*mut u32, *mut u32) {
         self.require();
         (self.registers.as_mut_ptr(), self.channel.as_mut_ptr())
@@ -232,6 +234,7 @@ impl Memories {
     }
 
     /// The result and the value.
+    #[inline]
     pub fn step(&mut self, code: u8, argument: [u8; 8]) -> (u8, u32) {
         let (registers, channel) = self.lend_mut();
         let mut value = 0;
@@ -241,6 +244,7 @@ impl Memories {
         (result, value)
     }
 
+    #[inline]
     pub fn advance(&mut self, code: u8, argument: [u8; 8]) -> (u8, u32) {
         let (registers, channel) = self.lend_mut();
         let mut value = 0;
@@ -250,6 +254,7 @@ impl Memories {
         (result, value)
     }
 
+    #[inline]
     pub fn step_counted(&mut self, code: u8, argument: [u8; 8], tally: &mut Tally) -> (u8, u32) {
         let (registers, channel) = self.lend_mut();
         let (at, mut value) = (argument.as_ptr(), 0);

@@ -3,6 +3,8 @@
 use core::error::Error;
 use core::fmt;
 
+use crate::HELD;
+
 /// Why a file, a placement, an output, a step or a sentence was refused (RULES 8.2). A refusal
 /// changes nothing.
 ///
@@ -64,7 +66,7 @@ pub enum Refusal {
     TooManyUndelivered,
     /// 36: a sentence, and the number is no refusal of a step.
     NoPhrase,
-    /// Any other number. The library answers none, with one exception:
+    /// Any other number but 0 and [`HELD`]. The library answers none, with one exception:
     /// [`Store::advance`](crate::Store::advance) on an ill-sized store, where the answer means
     /// nothing. No number of the variants above is ever given in this one.
     Unknown(u8),
@@ -130,11 +132,11 @@ impl Refusal {
         }
     }
 
-    /// What a result says: none for 0, which is no refusal. A number that RULES does not list
-    /// is kept as [`Refusal::Unknown`].
+    /// What a result says: none for 0 and [`HELD`], which are no refusals. A number that RULES does
+    /// not list is kept as [`Refusal::Unknown`].
     pub const fn from_number(number: u8) -> Option<Refusal> {
         Some(match number {
-            0 => return None,
+            0 | HELD => return None,
             1 => FileTooShort,
             2 => FileTooLong,
             3 => SizeOutOfRange,
@@ -225,8 +227,10 @@ mod tests {
 
     #[test]
     fn no_number_is_lost() {
-        assert_eq!(Refusal::from_number(0), None);
-        for number in 1..=255 {
+        for taken in [0, 100] {
+            assert_eq!(Refusal::from_number(taken), None);
+        }
+        for number in (1..=255).filter(|&number| number != 100) {
             let refusal = Refusal::from_number(number).expect("not taken");
             assert_eq!(refusal.number(), number);
             let listed = Refusal::ALL.contains(&refusal);
@@ -238,7 +242,7 @@ mod tests {
     fn no_two_phrases_are_alike() {
         let numbers = (1..=255).filter_map(Refusal::from_number);
         let phrases: BTreeSet<String> = numbers.map(|refusal| refusal.to_string()).collect();
-        assert_eq!(phrases.len(), 255);
+        assert_eq!(phrases.len(), 254);
         assert!(phrases.iter().all(|phrase| phrase.len() <= 45));
     }
 }

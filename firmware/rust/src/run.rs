@@ -8,7 +8,7 @@ use crate::{library, raw, Refusal};
 #[derive(Clone, Copy, Debug, Default, PartialEq, Eq, Hash)]
 #[repr(C)]
 pub struct Tally {
-    /// Steps with result 0.
+    /// Steps with result 0, or [`HELD`](crate::HELD).
     pub taken: u32,
     /// Steps with any other result, 6 too.
     pub refused: u32,
@@ -18,8 +18,10 @@ pub struct Tally {
 /// chapters 3 and 4). The output from there on stays as it was; [`LONGEST_ANSWER`] bytes are
 /// always enough.
 ///
-/// Refusals: 1 to 4 of the file, 5 of the output. The whole output then stays as it was. A
-/// refused step is no refusal of the file: its number is in the answer.
+/// In the answer a step's result is 0, or [`HELD`](crate::HELD) where step 8's message is held, or
+/// its refusal, which is no refusal of the file.
+///
+/// Refusals: 1 to 4 of the file, 5 of the output. The whole output then stays as it was.
 ///
 /// The run has a store of its own on the stack, 7,508 bytes and a little more.
 ///

@@ -90,7 +90,7 @@ fn made((refusal, length): (u8, u32), bytes: [u8; SENTENCE_MAX]) -> Option<Sente
 /// assert_eq!(sentence_bytes(7, 23, &mut output), (0, 28));
 /// assert_eq!(&output, b"step 7: no requests are left");
 /// assert_eq!(sentence_bytes(10, 23, &mut output), (5, 0));
-/// assert_eq!(sentence_bytes(10, 0, &mut output), (36, 0));
+/// assert_eq!([0, 100].map(|taken| sentence_bytes(10, taken, &mut output)), [(36, 0); 2]);
 /// ```
 ///
 /// # Panics

@@ -125,7 +125,8 @@ pub enum Step {
         /// The card that takes it.
         card: u8,
     },
-    /// 8: a message in flight reaches its card.
+    /// 8: a message in flight reaches its card, where it joins the inbox or is held
+    /// ([`Taken::held`](crate::Taken::held)).
     TakeSingle {
         /// The task whose message it is.
         task: u8,

@@ -4,7 +4,7 @@ use core::fmt;
 
 use crate::raw::Memories;
 use crate::refusal::done;
-use crate::{Condition, Refusal, Step, Tally, CHANNEL_WORDS, REGISTERS_WORDS};
+use crate::{Condition, Refusal, Step, Taken, Tally, CHANNEL_WORDS, REGISTERS_WORDS};
 
 /// Where tasks live and copies lie (RULES 10.1). Tasks and registers are as many as `homes`
 /// and `copies` are long.
@@ -23,8 +23,8 @@ pub struct Placement<'a> {
 /// A store in its two memories, 7,508 bytes.
 ///
 /// `step`, `step_counted` and `advance` take a [`Step`]; the forms in `_bytes` take a code and
-/// an argument as they lie in a run file, right or wrong. Each gives the value of the step,
-/// which is 0 unless a read is reported, or the refusal; a refused step changes nothing.
+/// an argument as they lie in a run file, right or wrong. Each gives what a taken step gives
+/// ([`Taken`]), or the refusal; a refused step changes nothing.
 ///
 /// Two stores are equal if all their words are. Stores that show the same may still differ in
 /// words that mean nothing, such as old places of a queue.
@@ -38,7 +38,7 @@ pub struct Placement<'a> {
 /// assert_eq!(store.task(0), Condition::AskingRead);
 /// assert_eq!(store.step(Step::Report { task: 0 }), Err(Refusal::WrongCondition));
 /// store.step(Step::Perform { task: 0 })?;
-/// assert_eq!(store.step(Step::Report { task: 0 }), Ok(0));
+/// assert_eq!(store.step(Step::Report { task: 0 })?.value, 0);
 /// # Ok::<(), Refusal>(())
 /// ```
 #[derive(Clone, PartialEq, Eq)]
@@ -111,10 +111,12 @@ impl Store {
         done(self.memories.start_file(file))
     }
 
-    /// Tries a step: its value, which is 0 unless a read is reported, or the refusal, 6 to 35.
-    /// The whole state is checked first; an ill-sized one is refused with 6. A reported read may
-    /// give 0 too: [`task`](Store::task) before the report tells which it is.
-    pub fn step(&mut self, step: Step) -> Result<u32, Refusal> {
+    /// Tries a step: its value, which is 0 unless a read is reported, and whether its message is
+    /// held, which only that of step 8 may be; or the refusal, 6 to 35. The whole state is checked
+    /// first; an ill-sized one is refused with 6. A reported read may give 0 too:
+    /// [`task`](Store::task) before the report tells which it is.
+    #[inline]
+    pub fn step(&mut self, step: Step) -> Result<Taken, Refusal> {
         self.step_bytes(step.code(), step.argument())
     }
 
@@ -124,17 +126,18 @@ impl Store {
     /// # use gondzselu::{Placement, Refusal, Store};
     /// # let place = Placement { cards: 1, homes: &[0], copies: &[1], primaries: &[0] };
     /// # let mut store = Store::start(place)?;
-    /// assert_eq!(store.step_bytes(1, [0; 8]), Ok(0));
+    /// assert_eq!(store.step_bytes(1, [0; 8])?.result(), 0);
     /// assert_eq!(store.step_bytes(3, [0, 0, 0, 0, 0, 0, 0, 1]), Err(Refusal::UnnamedByte));
     /// assert_eq!(store.step_bytes(99, [0; 8]), Err(Refusal::UnknownCode));
     /// # Ok::<(), Refusal>(())
     /// ```
-    pub fn step_bytes(&mut self, code: u8, argument: [u8; 8]) -> Result<u32, Refusal> {
-        taken(self.memories.step(code, argument))
+    #[inline]
+    pub fn step_bytes(&mut self, code: u8, argument: [u8; 8]) -> Result<Taken, Refusal> {
+        Taken::from_library(self.memories.step(code, argument))
     }
 
-    /// [`step`](Store::step), with its result counted in a tally that is lent: every refusal
-    /// counts, 6 too.
+    /// [`step`](Store::step), with its result counted in a tally that is lent: a held message is
+    /// taken, and every refusal counts, 6 too.
     ///
     /// ```
     /// # use gondzselu::{Placement, Refusal, Step, Store};
@@ -144,23 +147,25 @@ impl Store {
     ///
     /// let mut tally = Tally::default();
     /// let request = Step::RequestRead { task: 0, register: 0 };
-    /// assert_eq!(store.step_counted(request, &mut tally), Ok(0));
+    /// assert!(store.step_counted(request, &mut tally).is_ok());
     /// assert_eq!(store.step_counted(request, &mut tally), Err(Refusal::NotQuiet));
     /// assert_eq!(tally, Tally { taken: 1, refused: 1 });
     /// # Ok::<(), Refusal>(())
     /// ```
-    pub fn step_counted(&mut self, step: Step, tally: &mut Tally) -> Result<u32, Refusal> {
+    #[inline]
+    pub fn step_counted(&mut self, step: Step, tally: &mut Tally) -> Result<Taken, Refusal> {
         self.step_bytes_counted(step.code(), step.argument(), tally)
     }
 
     /// [`step_counted`](Store::step_counted) of a code and its argument.
+    #[inline]
     pub fn step_bytes_counted(
         &mut self,
         code: u8,
         argument: [u8; 8],
         tally: &mut Tally,
-    ) -> Result<u32, Refusal> {
-        taken(self.memories.step_counted(code, argument, tally))
+    ) -> Result<Taken, Refusal> {
+        Taken::from_library(self.memories.step_counted(code, argument, tally))
     }
 
     /// The step without the check of the state, which takes most of the time of
@@ -184,13 +189,15 @@ impl Store {
     /// assert!(store == other);
     /// # Ok::<(), Refusal>(())
     /// ```
-    pub fn advance(&mut self, step: Step) -> Result<u32, Refusal> {
+    #[inline]
+    pub fn advance(&mut self, step: Step) -> Result<Taken, Refusal> {
         self.advance_bytes(step.code(), step.argument())
     }
 
     /// [`advance`](Store::advance) by a code and its argument.
-    pub fn advance_bytes(&mut self, code: u8, argument: [u8; 8]) -> Result<u32, Refusal> {
-        taken(self.memories.advance(code, argument))
+    #[inline]
+    pub fn advance_bytes(&mut self, code: u8, argument: [u8; 8]) -> Result<Taken, Refusal> {
+        Taken::from_library(self.memories.advance(code, argument))
     }
 
     /// The value of a card's copy of a register; 0 for an absent card or register, and, in a
@@ -256,11 +263,6 @@ impl Store {
     pub fn words_mut(&mut self) -> (&mut [u32; REGISTERS_WORDS], &mut [u32; CHANNEL_WORDS]) {
         self.memories.words_mut()
     }
-}
-
-/// The value of a taken step, from the result and the value.
-fn taken((result, value): (u8, u32)) -> Result<u32, Refusal> {
-    done(result).map(|()| value)
 }
 
 /// What is counted in it; the words are too many to show.

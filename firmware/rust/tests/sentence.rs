@@ -64,7 +64,7 @@ fn every_refusal_of_a_step_has_a_sentence() {
             assert_eq!(words.as_deref(), wanted(place, refusal.number()).as_deref());
             longest = longest.max(words.map_or(0, |words| words.len()));
         }
-        assert_eq!(sentence(place, Refusal::Unknown(100)), None);
+        assert_eq!(sentence(place, Refusal::Unknown(99)), None);
     }
     assert_eq!(longest, SENTENCE_MAX);
     // RULES 4.7: place 12 of K9.

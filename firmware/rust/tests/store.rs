@@ -1,8 +1,8 @@
 //! Stores against the rules: K9, the limits, what is copied and what is shared.
 
 use gondzselu::{
-    answer, answer_counted, Condition, Function, Placement, Refusal, Step, Store, Tally,
-    CHANNEL_WORDS, LONGEST_ANSWER, LONGEST_FILE, MAX_BEHIND, MAX_CARDS, MAX_REGISTERS,
+    answer, answer_counted, Condition, Function, Placement, Refusal, Step, Store, Taken, Tally,
+    CHANNEL_WORDS, HELD, LONGEST_ANSWER, LONGEST_FILE, MAX_BEHIND, MAX_CARDS, MAX_REGISTERS,
     MAX_REQUESTS, MAX_STEPS, MAX_TASKS, REGISTERS_WORDS,
 };
 
@@ -24,12 +24,19 @@ fn k9_steps() -> impl Iterator<Item = (u8, [u8; 8])> {
     })
 }
 
-/// RULES 4.7: all taken but step 12; step 7 gives 7.
-fn k9_answer(k: usize) -> Result<u32, Refusal> {
+const fn taken(value: u32, held: bool) -> Result<Taken, Refusal> {
+    Ok(Taken { value, held })
+}
+
+const TAKEN: Result<Taken, Refusal> = taken(0, false);
+
+/// RULES 4.7: all taken but step 12; step 7 gives 7, and the message of step 11 is held.
+fn k9_answer(k: usize) -> Result<Taken, Refusal> {
     match k {
-        7 => Ok(7),
+        7 => taken(7, false),
+        11 => taken(0, true),
         12 => Err(Refusal::InboxEmpty),
-        _ => Ok(0),
+        _ => TAKEN,
     }
 }
 
@@ -76,7 +83,7 @@ fn k9_whole() {
     assert_eq!(answer(&K9, &mut output), Ok(82));
     let mut wanted = [0; 84];
     wanted[0] = 16;
-    wanted[2 + 12] = 33;
+    wanted[2 + 11..2 + 13].copy_from_slice(&[HELD, 33]);
     wanted[46] = 7;
     wanted[82..].fill(9);
     assert_eq!(output, wanted);
@@ -152,14 +159,14 @@ fn requests_end_where_the_limit_says() {
     };
     for _ in 0..MAX_REQUESTS {
         for step in [request, Step::Perform { task: 0 }, Step::Report { task: 0 }] {
-            assert_eq!(store.advance(step), Ok(0));
+            assert_eq!(store.advance(step), TAKEN);
         }
     }
     assert_eq!(store.requests(), MAX_REQUESTS);
     assert_eq!(store.advance(request), Err(Refusal::NoRequestLeft));
     assert_eq!(store.step(request), Err(Refusal::NoRequestLeft));
     store.restart(SMALLEST).expect("a placement");
-    assert_eq!((store.requests(), store.step(request)), (0, Ok(0)));
+    assert_eq!((store.requests(), store.step(request)), (0, TAKEN));
 }
 
 /// K11; then card 1 takes one broadcast, and the refused one passes.
@@ -186,15 +193,15 @@ fn a_card_falls_behind_as_far_as_the_limit_says() {
     ];
     for _ in 0..MAX_BEHIND {
         for step in [update, send, dispatch].into_iter().chain(rest) {
-            assert_eq!(store.step(step), Ok(0));
+            assert_eq!(store.step(step), TAKEN);
         }
     }
     let behind = |store: &Store| store.broadcasts() - store.broadcasts_taken(1);
     assert_eq!(behind(&store), MAX_BEHIND);
     let last = [update, send, dispatch].map(|step| store.step(step));
-    assert_eq!(last, [Ok(0), Ok(0), Err(Refusal::TooFarBehind)]);
+    assert_eq!(last, [TAKEN, TAKEN, Err(Refusal::TooFarBehind)]);
     let take = Step::TakeBroadcast { card: 1 };
-    assert_eq!([take, dispatch].map(|step| store.step(step)), [Ok(0); 2]);
+    assert_eq!([take, dispatch].map(|step| store.step(step)), [TAKEN; 2]);
     assert_eq!(behind(&store), MAX_BEHIND);
 }
 
@@ -221,7 +228,7 @@ fn a_counter_at_the_top() {
             });
         }
         let read = operation(Step::RequestRead { task, register });
-        assert_eq!(read, expected, "{function}");
+        assert_eq!(read.value, expected, "{function}");
     }
 }
 
@@ -233,7 +240,7 @@ fn a_clone_is_a_store_of_its_own() {
         task: 0,
         register: 0,
     };
-    assert_eq!(second.step(request), Ok(0));
+    assert_eq!(second.step(request), TAKEN);
     assert_eq!((first.requests(), second.requests()), (0, 1));
     assert!(first != second);
     let (registers, channel) = second.words();

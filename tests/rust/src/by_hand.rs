@@ -160,6 +160,7 @@ mod tests {
     use std::collections::{BTreeMap, BTreeSet};
 
     use super::*;
+    use crate::generate::near;
     use crate::memory::{shown, well_sized, written, Words};
     use crate::statistics::{self, STATES};
 
@@ -184,5 +185,27 @@ mod tests {
         }
         assert_eq!(statistics::faults(&faults), [""; 0]);
         assert!((0..=26).all(|number| behind.contains(&number)));
+    }
+
+    /// Steps from so many states have every result, 100 among them, which only a step 8 has.
+    #[test]
+    fn steps_have_every_result() {
+        let (mut ill_sized, mut results) = (0, BTreeMap::new());
+        for item in 0..STATES {
+            let mut random = Random::new(3, item);
+            let mut state = state(&mut random);
+            if !state.well_sized() {
+                ill_sized += 1;
+                continue;
+            }
+            for _ in 0..6 {
+                let (code, argument) = near(&mut random, &state.placement);
+                let (result, _) = state.step_reached(code, argument);
+                assert!(result != 100 || code == 8, "item {item}");
+                *results.entry(result).or_default() += 1;
+            }
+        }
+        let missing = statistics::by_hand(STATES as usize, ill_sized, &results);
+        assert_eq!(missing, [""; 0]);
     }
 }

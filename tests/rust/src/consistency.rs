@@ -8,6 +8,7 @@ use std::collections::HashSet;
 
 use crate::model::apply;
 use crate::model::files::{RawStep, Run};
+use crate::model::results::taken;
 use crate::model::State;
 
 #[derive(Clone, Copy, Debug, PartialEq, Eq)]
@@ -35,7 +36,7 @@ pub fn history(run: &Run) -> History {
 
 fn record(history: &mut History, (code, argument): RawStep, (result, value): (u8, u32)) {
     let [task, register, function, _, a, b, c, d] = argument;
-    if result != 0 || !matches!(code, 1 | 2 | 10) {
+    if !taken(result) || !matches!(code, 1 | 2 | 10) {
         return;
     }
     let operations = &mut history[task as usize];

@@ -15,13 +15,14 @@ use gondzselu::{Condition, Refusal, Store, Tally};
 use crate::memory::{self, Words};
 use crate::model::files::{answer_file, answer_into, program_output, Run};
 use crate::model::placement::Placement;
+use crate::model::results::taken;
 use crate::model::{tally, Request, State, Task};
 use crate::named;
 use crate::random::Random;
 use calls::Calls;
 
-/// Version 0.6.0.
-const VERSION: u32 = 6_000;
+/// Version 0.7.0.
+const VERSION: u32 = 7_000;
 
 /// What lies in a lent output before.
 const FILL: u8 = 0xA5;
@@ -148,7 +149,7 @@ fn step(
     let before = look.then(|| calls.store().clone());
     let expected = state.step_reached(code, argument);
     calls.step(code, argument, expected)?;
-    if expected.0 != 0 && before.is_some_and(|before| before != *calls.store()) {
+    if !taken(expected.0) && before.is_some_and(|before| before != *calls.store()) {
         return Err("a refused step changes a word".into());
     }
     if look && shown(calls.store()) != *state {

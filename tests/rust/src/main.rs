@@ -45,10 +45,10 @@ compare sentences-library        compares its sentences
 compare write SEED COUNT         compares the run files that it writes from tables
 
 From COUNT 1,000 on, each also fails where the files miss something that they must reach: a
-refusal, a code or function taken, a sum about the top, a kind of message delivered, a value, a
-size at its least or most, a limit; where the texts miss a message; where the tables miss a refusal,
-a reason for it, a size or a length of the output; and from 10,000 on, where the states are all of
-one sort or miss a result.";
+refusal, a code or function taken, a message held, a sum about the top, a kind of message
+delivered, a value, a size at its least or most, a limit; where the texts miss a message or an
+answer; where the tables miss a refusal, a reason for it, a size or a length of the output; and
+from 10,000 on, where the states are all of one sort or miss a result.";
 
 fn main() -> ExitCode {
     let words: Vec<String> = std::env::args().skip(1).collect();

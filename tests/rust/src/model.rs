@@ -9,14 +9,18 @@ pub mod files;
 mod functions;
 mod judge;
 pub mod placement;
+pub mod results;
 pub mod sized;
 pub mod step;
 pub mod tally;
+#[cfg(test)]
+mod tests;
 pub mod write;
 
-use channel::{Body, Channel, Message};
+use channel::{Arrived, Body, Channel, Message};
 pub use functions::{apply, FUNCTIONS};
 use placement::Placement;
+use results::{DONE, HELD};
 use step::Step;
 
 /// Numbers from 0 (RULES 1.3). A set of cards is a byte (1.5).
@@ -86,8 +90,8 @@ impl State {
         })
     }
 
-    /// One step on any state, refused in the order of RULES 8.5. Gives the result (0 taken, else
-    /// the refusal) and the value.
+    /// One step on any state, refused in the order of RULES 8.5. Gives the result (RULES 4.2: 0 or
+    /// 100 taken, else the refusal) and the value.
     pub fn step(&mut self, code: u8, argument: [u8; 8]) -> (u8, u32) {
         if !self.well_sized() {
             return (6, 0);
@@ -98,7 +102,7 @@ impl State {
     /// The same for a state reached from a start, which is always well sized (RULES 8.9).
     pub fn step_reached(&mut self, code: u8, argument: [u8; 8]) -> (u8, u32) {
         match self.allowed(code, argument) {
-            Ok(step) => (0, self.take(step)),
+            Ok(step) => self.take(step),
             Err(refusal) => (refusal, 0),
         }
     }
@@ -126,9 +130,9 @@ impl State {
         &mut self.copies[card * self.placement.registers.len() + register]
     }
 
-    /// Takes a step that `judge` allowed and gives the value of the answer file (RULES 5.1 to
-    /// 5.10, 4.3).
-    fn take(&mut self, step: Step) -> u32 {
+    /// Takes a step that `judge` allowed and gives result and value of the answer file (RULES 5.1 to
+    /// 5.10, 4.2, 4.3).
+    fn take(&mut self, step: Step) -> (u8, u32) {
         match step {
             Step::RequestRead { task, register } => {
                 self.ask(task, Request::Read { register });
@@ -172,16 +176,20 @@ impl State {
             }
             Step::Dispatch { card } => self.channel.dispatch(card),
             Step::TakeBroadcast { card } => self.channel.take_broadcast(card),
-            Step::TakeSingle { task } => self.channel.take_single(task),
+            Step::TakeSingle { task } => {
+                if self.channel.take_single(task) == Arrived::Held {
+                    return (HELD, 0);
+                }
+            }
             Step::Deliver { card } => self.deliver(card),
             Step::Report { task } => {
                 if let Task::Done(value) = self.tasks[task] {
                     self.tasks[task] = Task::Quiet;
-                    return value;
+                    return (DONE, value);
                 }
             }
         }
-        0
+        (DONE, 0)
     }
 
     fn ask(&mut self, task: TaskNumber, request: Request) {

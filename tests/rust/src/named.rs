@@ -49,6 +49,11 @@ fn taken(step: RawStep) -> Told {
     (step, (0, 0))
 }
 
+/// A step 8 whose message is held (RULES 5.8).
+fn held(step: RawStep) -> Told {
+    (step, (100, 0))
+}
+
 fn gives(step: RawStep, value: u32) -> Told {
     (step, (0, value))
 }

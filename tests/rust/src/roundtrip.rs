@@ -60,7 +60,7 @@ pub struct Compared {
     pub files: usize,
     /// Files by each of their sizes, and by what `view` prints of their steps.
     pub sizes: BTreeMap<(&'static str, usize), usize>,
-    pub asked: BTreeMap<String, usize>,
+    pub shown: BTreeMap<String, usize>,
     /// Spoiled texts by the sort of their message; those that are runs, by `WRITTEN`.
     pub spoiled: BTreeMap<String, usize>,
 }
@@ -75,12 +75,13 @@ const SIZES: [(&str, [usize; 2]); 4] = [
     ("steps", [0, 4_096]),
 ];
 
-/// All that `view` can print of a step that is asked for, in its columns.
-fn asked() -> impl Iterator<Item = String> {
+/// All that `view` can print of a step that is asked for, in its columns, and of one that is taken.
+fn shown() -> impl Iterator<Item = String> {
     let steps = view::NAMES.map(|name| format!("  {name:<16}"));
     let functions = view::NAMED_FUNCTIONS.map(|name| format!("  {name:<22}"));
-    let bytes = "  bytes ".to_string();
-    steps.into_iter().chain(functions).chain([bytes])
+    let others = ["  bytes ", " taken\n", " taken, value ", " held\n"];
+    let others = others.map(String::from);
+    steps.into_iter().chain(functions).chain(others)
 }
 
 impl Compared {
@@ -96,8 +97,8 @@ impl Compared {
         for ((name, _), size) in SIZES.into_iter().zip(sizes) {
             *self.sizes.entry((name, size)).or_default() += 1;
         }
-        for words in asked().filter(|words| text.contains(words.as_str())) {
-            *self.asked.entry(words).or_default() += 1;
+        for words in shown().filter(|words| text.contains(words.as_str())) {
+            *self.shown.entry(words).or_default() += 1;
         }
     }
 
@@ -109,7 +110,7 @@ impl Compared {
         }
         self.files += other.files;
         sum(&mut self.sizes, other.sizes);
-        sum(&mut self.asked, other.asked);
+        sum(&mut self.shown, other.shown);
         sum(&mut self.spoiled, other.spoiled);
     }
 
@@ -119,12 +120,12 @@ impl Compared {
         let sizes = sizes.flat_map(|(name, sizes)| sizes.map(|size| (name, size)));
         let sizes = sizes.filter(|size| !self.sizes.contains_key(size));
         let sizes = sizes.map(|(name, size)| format!("files with {name} {size}"));
-        let asked = asked().filter(|words| !self.asked.contains_key(words));
-        let asked = asked.map(|words| format!("steps shown as {}", words.trim()));
+        let shown = shown().filter(|words| !self.shown.contains_key(words));
+        let shown = shown.map(|words| format!("steps shown as {}", words.trim()));
         let sorts = compose::sorts().into_iter().chain([WRITTEN.to_string()]);
         let sorts = sorts.filter(|sort| !self.spoiled.contains_key(sort));
         let sorts = sorts.map(|sort| format!("spoiled texts: {sort}"));
-        sizes.chain(asked).chain(sorts).collect()
+        sizes.chain(shown).chain(sorts).collect()
     }
 }
 

@@ -6,6 +6,7 @@ pub mod cases;
 
 use std::cmp::Ordering;
 
+use crate::model::results::taken;
 use crate::model::tally::Tally;
 use crate::sentence::sentence;
 
@@ -31,7 +32,7 @@ pub fn say(file: &[u8]) -> Result<String, &'static str> {
     let mut tally = Tally::default();
     for (step, &result) in rest[..steps].iter().enumerate() {
         tally.count(result);
-        if result != 0 {
+        if !taken(result) {
             let said = sentence(step as u32, result);
             text += &said.ok_or("a result has no phrase")?;
             text.push('\n');
@@ -89,6 +90,8 @@ taken 15, refused 1
         );
         assert_eq!(why(&[1, 0, 36, 0, 0, 0, 0]), "a result has no phrase");
         assert_eq!(why(&[0, 0, 0]), "the answer file is too long");
+        let held = "taken 1, refused 0\n".to_string();
+        assert_eq!(say(&[1, 0, 100, 0, 0, 0, 0]), Ok(held));
     }
 
     /// What rt gives the program, and what it must print: K9.

@@ -2,6 +2,7 @@
 
 use crate::consistency::{consistent, history, operations};
 use crate::model::files::{answer_file, write_answer, Run};
+use crate::model::results::{taken, HELD};
 use crate::model::State;
 
 /// Runs with at most so many operations are tried for a serial order.
@@ -31,11 +32,15 @@ pub fn check(file: &[u8], checked: &mut Checked) -> Result<(), String> {
         if result == 6 {
             return Err(format!("step {number} gives 6"));
         }
-        if result != 0 && (value != 0 || state != before) {
+        if !taken(result) && (value != 0 || state != before) {
             return Err(format!("step {number} is refused and changes something"));
         }
-        if result == 0 && state == before {
+        if taken(result) && state == before {
             return Err(format!("step {number} is taken and changes nothing"));
+        }
+        let held = held(&state) > held(&before);
+        if (result == HELD) != held || held && (code, value) != (8, 0) {
+            return Err(format!("step {number} gives {result}, and holds: {held}"));
         }
         answers.push((result, value));
     }
@@ -55,6 +60,11 @@ pub fn check(file: &[u8], checked: &mut Checked) -> Result<(), String> {
     Ok(())
 }
 
+/// How many messages are held, on all cards.
+fn held(state: &State) -> usize {
+    state.channel.held.iter().map(Vec::len).sum()
+}
+
 /// Takes every move that finishes something until none is left: then all tasks are quiet, all
 /// queues are empty and the copies of each register are alike.
 fn drained(mut state: State) -> Result<(), String> {
@@ -64,7 +74,7 @@ fn drained(mut state: State) -> Result<(), String> {
     while moved {
         moved = false;
         let mut attempt = |code: u8, argument: [u8; 8]| {
-            moved |= state.step_reached(code, argument).0 == 0;
+            moved |= taken(state.step_reached(code, argument).0);
         };
         for task in 0..tasks {
             for code in [3, 5, 8, 10] {

@@ -10,6 +10,7 @@ use std::collections::BTreeMap;
 use crate::generate::Kind;
 use crate::model::channel::Body;
 use crate::model::files::{RawStep, Run};
+use crate::model::results::taken;
 use crate::model::step::Step;
 use crate::model::{Card, Request, State, Task};
 pub use largest::{Largest, LIMITS};
@@ -34,8 +35,9 @@ pub struct Statistics {
     pub lengths: Counts<usize>,
     /// Steps by result.
     pub results: Counts<u8>,
-    /// Steps taken by code, and those that ask for an update by function.
+    /// Steps taken by code; steps 8 taken by result; those that ask for an update by function.
     pub codes: Counts<u8>,
+    pub arrivals: Counts<u8>,
     pub functions: Counts<u8>,
     /// Sums that an update made of a copy, by function and where they lie.
     pub sums: Counts<(u8, Sum)>,
@@ -124,8 +126,11 @@ impl Statistics {
             }
             let (result, _) = state.step_reached(code, argument);
             count(&mut self.results, result);
-            if result == 0 {
+            if taken(result) {
                 largest.see(&state.channel);
+                if code == 8 {
+                    count(&mut self.arrivals, result);
+                }
             }
         }
         for (total, reached) in self.reached.iter_mut().zip(largest.reached()) {
@@ -226,7 +231,7 @@ mod tests {
             let statistics = of_one(Kind::Full, item);
             assert!(statistics.lengths.contains_key(&4_096));
             assert_eq!(statistics.largest, LIMITS, "{item}");
-            assert_eq!(statistics.refusals_missing(), [], "{item}");
+            assert_eq!(statistics.results_missing(), [], "{item}");
         }
     }
 
@@ -244,7 +249,8 @@ mod tests {
         assert_eq!(k9.delivered, Counts::from([(Delivered::Update, 3)]));
         assert_eq!(k9.found, Counts::from([(Found::AtHome, 1)]));
         assert_eq!(k9.functions, Counts::from([(1, 2)]));
-        assert_eq!((k9.results[&0], k9.results[&33]), (15, 1));
+        assert_eq!(k9.results, Counts::from([(0, 14), (33, 1), (100, 1)]));
+        assert_eq!(k9.arrivals, Counts::from([(100, 1)]));
         let k10 = of("K10");
         let delivered = [
             (Delivered::Read, 1),
@@ -254,5 +260,9 @@ mod tests {
         assert_eq!(k10.delivered, Counts::from(delivered));
         // What task 0 read is 0.
         assert_eq!(k10.found, Counts::new());
+        // The read message joins, and the reply is held.
+        assert_eq!(k10.arrivals, Counts::from([(0, 1), (100, 1)]));
+        let results = [(0, 15), (21, 2), (33, 1), (100, 1)];
+        assert_eq!(k10.results, Counts::from(results));
     }
 }

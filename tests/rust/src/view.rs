@@ -6,6 +6,7 @@ pub mod cases;
 
 use crate::model::files::{RawStep, Run};
 use crate::model::placement::Placement;
+use crate::model::results::{self, DONE, HELD};
 use crate::model::tally::Tally;
 use crate::model::{has, Refusal, State, FUNCTIONS};
 use crate::sentence::PHRASES;
@@ -72,11 +73,12 @@ pub fn view(file: &[u8]) -> String {
         let asked = asked((code, argument), result);
         let task = argument[0] as usize;
         let answered = match (result, code) {
-            (0, 10) if reads[task] => format!("taken, value {value}"),
-            (0, _) => "taken".to_string(),
+            (DONE, 10) if reads[task] => format!("taken, value {value}"),
+            (DONE, _) => "taken".to_string(),
+            (HELD, _) => "held".to_string(),
             _ => refused(result),
         };
-        if result == 0 && matches!(code, 1 | 2) {
+        if results::taken(result) && matches!(code, 1 | 2) {
             reads[task] = code == 1;
         }
         text += &format!("{number:>4}  {asked:<73}{answered}\n");
@@ -181,7 +183,7 @@ register  1  primary card 1  copies on 1
    8  request update  task   0  register   1  set                   9          taken
    9  send update     task   0                                                 taken
   10  dispatch        card   0                                                 taken
-  11  take single     task   0                                                 taken
+  11  take single     task   0                                                 held
   12  deliver         card   1                                                 refused 33: the card has nothing to deliver
   13  take broadcast  card   1                                                 taken
   14  deliver         card   1                                                 taken

@@ -10,7 +10,7 @@ use core::panic::PanicInfo;
 use core::ptr::addr_of_mut;
 
 use gondzselu::{
-    sentence, write, Condition, Function, Placement, Refusal, Step, Steps, Store, Tally,
+    sentence, write, Condition, Function, Placement, Refusal, Step, Steps, Store, Taken, Tally,
 };
 
 #[link(name = "c")]
@@ -52,23 +52,29 @@ const READ: Step = Step::RequestRead {
     register: 0,
 };
 
-const K9: [(Step, Result<u32, Refusal>); 16] = [
-    (set(2, 0, 7), Ok(0)),
-    (Step::SendUpdate { task: 2 }, Ok(0)),
-    (Step::Dispatch { card: 2 }, Ok(0)),
-    (Step::TakeBroadcast { card: 0 }, Ok(0)),
-    (Step::Deliver { card: 0 }, Ok(0)),
-    (READ, Ok(0)),
-    (Step::Perform { task: 0 }, Ok(0)),
-    (Step::Report { task: 0 }, Ok(7)),
-    (set(0, 1, 9), Ok(0)),
-    (Step::SendUpdate { task: 0 }, Ok(0)),
-    (Step::Dispatch { card: 0 }, Ok(0)),
-    (Step::TakeSingle { task: 0 }, Ok(0)),
+const fn taken(value: u32, held: bool) -> Result<Taken, Refusal> {
+    Ok(Taken { value, held })
+}
+
+const TAKEN: Result<Taken, Refusal> = taken(0, false);
+
+const K9: [(Step, Result<Taken, Refusal>); 16] = [
+    (set(2, 0, 7), TAKEN),
+    (Step::SendUpdate { task: 2 }, TAKEN),
+    (Step::Dispatch { card: 2 }, TAKEN),
+    (Step::TakeBroadcast { card: 0 }, TAKEN),
+    (Step::Deliver { card: 0 }, TAKEN),
+    (READ, TAKEN),
+    (Step::Perform { task: 0 }, TAKEN),
+    (Step::Report { task: 0 }, taken(7, false)),
+    (set(0, 1, 9), TAKEN),
+    (Step::SendUpdate { task: 0 }, TAKEN),
+    (Step::Dispatch { card: 0 }, TAKEN),
+    (Step::TakeSingle { task: 0 }, taken(0, true)),
     (Step::Deliver { card: 1 }, Err(Refusal::InboxEmpty)),
-    (Step::TakeBroadcast { card: 1 }, Ok(0)),
-    (Step::Deliver { card: 1 }, Ok(0)),
-    (Step::Deliver { card: 1 }, Ok(0)),
+    (Step::TakeBroadcast { card: 1 }, TAKEN),
+    (Step::Deliver { card: 1 }, TAKEN),
+    (Step::Deliver { card: 1 }, TAKEN),
 ];
 
 fn play(store: &mut Store) -> i32 {

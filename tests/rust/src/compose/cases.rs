@@ -1,6 +1,7 @@
 //! The cases of `compose`: texts that are runs, and for each message texts that are none. Some are
 //! kept in the tree; `.ci/roundtrip` tries all. What `view` prints of its own cases is not kept again.
 
+mod answered;
 mod good;
 mod placed;
 mod understood;
@@ -89,8 +90,9 @@ pub fn cases() -> Vec<Case> {
 }
 
 /// Those without a run that are kept: at least two for each message.
-const KEPT: [&str; 21] = [
+const KEPT: [&str; 22] = [
     "bytes_eight",
+    "heldx",
     "holder_8",
     "line_256",
     "operand_4294967296",

@@ -161,7 +161,7 @@ fn step(words: &[Word]) -> Option<RawStep> {
         }
         _ => return None,
     };
-    matches!(rest, [] | [b"taken" | b"refused", ..]).then_some(step)
+    matches!(rest, [] | [b"taken" | b"held" | b"refused", ..]).then_some(step)
 }
 
 /// The function whose words come first, and the words behind it.

@@ -104,7 +104,7 @@ fn left_out(text: &str, random: &mut Random) -> Vec<Line> {
         }
         let mut asked = line;
         if answers {
-            let ends = ["taken", "refused"].map(|word| line.find(word));
+            let ends = ["taken", "held", "refused"].map(|word| line.find(word));
             let end = ends.into_iter().flatten().min();
             asked = &line[..end.unwrap_or(line.len())];
         }

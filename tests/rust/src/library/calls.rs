@@ -1,7 +1,7 @@
 //! The three calls that take a step, each on a store of its own: the step, the step without the
 //! check of the state, and the step that is counted.
 
-use gondzselu::{Refusal, Step, Store, Tally};
+use gondzselu::{Refusal, Step, Store, Taken, Tally};
 
 use super::c;
 use crate::model::tally;
@@ -18,9 +18,9 @@ pub struct Calls {
 }
 
 /// Result and value of what the crate answers.
-fn numbers(answer: Result<u32, Refusal>) -> (u8, u32) {
+fn numbers(answer: Result<Taken, Refusal>) -> (u8, u32) {
     match answer {
-        Ok(value) => (0, value),
+        Ok(taken) => (taken.result(), taken.value),
         Err(refusal) => (refusal.number(), 0),
     }
 }

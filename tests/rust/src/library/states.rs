@@ -7,6 +7,7 @@ use super::{compare_panel, shown, store, wild};
 use crate::by_hand;
 use crate::generate::near;
 use crate::memory::written;
+use crate::model::results::taken;
 use crate::random::Random;
 
 /// What was compared.
@@ -51,7 +52,7 @@ pub fn compare(random: &mut Random, compared: &mut Compared) -> Result<(), Strin
         }
         calls.step(code, argument, expected).map_err(said)?;
         calls.same().map_err(said)?;
-        if expected.0 != 0 && *calls.store() != before {
+        if !taken(expected.0) && *calls.store() != before {
             return Err(said("refused, and a word changes".into()));
         }
         if shown(calls.store()) != state {

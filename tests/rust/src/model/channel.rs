@@ -46,6 +46,13 @@ impl Tagged {
     }
 }
 
+/// Where a single message is after its step 8 (RULES 5.8).
+#[derive(Clone, Copy, Debug, PartialEq, Eq)]
+pub enum Arrived {
+    InTheInbox,
+    Held,
+}
+
 #[derive(Clone, Debug, PartialEq, Eq)]
 pub struct Channel {
     /// How far behind a card can be: `BEHIND`, or what it was for runs of earlier versions.
@@ -187,15 +194,15 @@ impl Channel {
     }
 
     /// RULES 5.8.
-    pub fn take_single(&mut self, task: TaskNumber) {
-        let Some(single) = self.flight[task].take() else {
-            return;
-        };
+    pub fn take_single(&mut self, task: TaskNumber) -> Arrived {
+        let single = self.flight[task].take().expect("judged to be in flight");
         let card = single.destination();
         if single.tag <= self.taken[card] {
             self.inbox[card].push_back(single.message);
+            Arrived::InTheInbox
         } else {
             self.held[card].push(single);
+            Arrived::Held
         }
     }
 }
@@ -222,7 +229,7 @@ mod tests {
             let message = single(task, 2);
             channel.flight[task] = Some(Tagged { message, tag });
             assert_eq!(channel.may_take_single(task), Ok(()));
-            channel.take_single(task);
+            assert_eq!(channel.take_single(task), Arrived::Held);
         }
         assert_eq!(channel.held[1].len(), 3);
         for _ in 0..3 {

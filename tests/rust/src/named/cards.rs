@@ -1,6 +1,6 @@
 //! The named runs on several cards: K9 to K12, and two held messages of one tag.
 
-use super::{gives, refused, taken, told, Named, Told};
+use super::{gives, held, refused, taken, told, Named, Told};
 use crate::model::placement::Placement;
 use crate::steps::*;
 
@@ -37,7 +37,7 @@ pub fn k9() -> Named {
     steps.extend(set_on_card_one(0, 9));
     steps.extend([
         // It reaches card 1 first and is held there (5.8): nothing is there to deliver.
-        taken(take_single(0)),
+        held(take_single(0)),
         refused(deliver(1), 33),
         // It joins behind broadcast 1 (6.5): the copies become 7, then 9.
         taken(take_broadcast(1)),
@@ -58,7 +58,7 @@ pub fn k10() -> Named {
         taken(deliver(1)),
         taken(dispatch(1)),
         // The reply is held at card 0: nothing is there to deliver, and task 0 is not done.
-        taken(take_single(0)),
+        held(take_single(0)),
         refused(deliver(0), 33),
         refused(report(0), 21),
         // Card 0 takes broadcast 1: that comes first, then the reply.
@@ -81,8 +81,8 @@ pub fn two_held() -> Named {
     steps.extend(set_on_card_one(2, 4));
     steps.extend([
         // Both are held at card 1.
-        taken(take_single(2)),
-        taken(take_single(0)),
+        held(take_single(2)),
+        held(take_single(0)),
         // Card 1 takes broadcast 1 and delivers all three.
         taken(take_broadcast(1)),
         taken(deliver(1)),

@@ -43,13 +43,15 @@ fn files_and_texts_reach_everything() {
     assert_eq!(none_missing(compared.missing()), Ok(()));
     let mut less = compared.clone();
     less.sizes.remove(&("steps", 4_096));
-    less.asked.remove("  bytes ");
-    less.asked.remove(&format!("  {:<22}", "or"));
+    less.shown.remove("  bytes ");
+    less.shown.remove(" held\n");
+    less.shown.remove(&format!("  {:<22}", "or"));
     less.spoiled.remove("line L is one too many");
     let missing = [
         "files with steps 4096",
         "steps shown as or",
         "steps shown as bytes",
+        "steps shown as held",
         "spoiled texts: line L is one too many",
     ];
     assert_eq!(less.missing(), missing);
@@ -78,7 +80,12 @@ fn a_wrong_view_is_noticed() {
     assert!(
         of(|e| ended(true, e.output, "well".into())).contains("view: it ends badly or says: well")
     );
-    // Nothing that `compose` would miss.
+    // Nothing that `compose` would miss: another answer, and a line more.
+    let said = of(|e| {
+        let text = String::from_utf8(e.output).expect("a text");
+        writes(text.replace(" held\n", " taken\n").into())
+    });
+    assert!(said.contains("view: "));
     let said = of(|e| writes([&e.output[..], b"\n"].concat()));
     assert!(said.contains("view: ") && said.contains("the first other one at None"));
 }
@@ -93,7 +100,7 @@ fn on(lines: impl Fn(&str) -> String, text: &[u8]) -> Ended {
     by_model(&text.chars().map(|c| c as u8).collect::<Vec<u8>>())
 }
 
-const WRONG: [Wrong; 15] = [
+const WRONG: [Wrong; 16] = [
     ("a byte more", |text| {
         let Ended {
             well,
@@ -189,6 +196,9 @@ const WRONG: [Wrong; 15] = [
             |line| line.replace("4294967296", "0").replace("4294967297", "1"),
             text,
         )
+    }),
+    ("held is no answer", |text| {
+        on(|line| line.replace(" held", " now"), text)
     }),
     ("the last line needs a newline", |text| {
         let end = text.iter().rposition(|&byte| byte == b'\n');

@@ -14,8 +14,8 @@ pub struct Case {
 /// Values whose bytes could be taken for results, with a phrase and without. `say` looks at none.
 const VALUES: [u32; 4] = [0x2306_210C, 0, 0x0101_0101, u32::MAX];
 
-/// Numbers without a phrase, at both ends of each gap between those that have one.
-const WITHOUT: [u8; 10] = [1, 5, 7, 9, 16, 19, 24, 29, 36, 255];
+/// Numbers that are no result, at both ends of each gap between those that are.
+const WITHOUT: [u8; 12] = [1, 5, 7, 9, 16, 19, 24, 29, 36, 99, 101, 255];
 
 /// An answer file made by hand of results.
 fn by_hand(results: impl IntoIterator<Item = u8>) -> Vec<u8> {
@@ -58,6 +58,7 @@ fn good() -> Vec<(&'static str, Vec<u8>)> {
         ("k9", k9()),
         ("no_steps", by_hand([])),
         ("no_refusals", by_hand([0; 16])),
+        ("held", by_hand([100, 0, 100, 12, 0, 100, 100])),
         ("every_refusal", every_refusal()),
         (
             "by_hand",
@@ -136,7 +137,8 @@ mod tests {
         for (name, file) in good() {
             let text = say(&file).expect(name);
             let steps = u16::from_le_bytes([file[0], file[1]]) as usize;
-            let refused = file[2..2 + steps].iter().filter(|result| **result != 0);
+            let results = file[2..2 + steps].iter();
+            let refused = results.filter(|result| (6..=35).contains(*result));
             let (refused, lines) = (refused.count(), text.lines().count());
             assert_eq!(lines, refused + 1, "{name}");
             let last = format!("taken {}, refused {refused}", steps - refused);
@@ -145,6 +147,8 @@ mod tests {
         }
         assert_eq!(texts["no_steps"], "taken 0, refused 0\n");
         assert_eq!(texts["no_refusals"], "taken 16, refused 0\n");
+        let held = "step 3: there is no such task\ntaken 6, refused 1\n";
+        assert_eq!(texts["held"], held);
         for (number, phrase) in PHRASES {
             let has = |name| texts[name].contains(&format!(": {phrase}\n"));
             let of_a_file = !matches!(number, 6 | 23);

@@ -1,6 +1,7 @@
 //! What generated files must reach, so that a comparison on them means something.
 
 use super::{Counts, Delivered, Found, Statistics, Sum, LIMITS};
+use crate::model::results::{DONE, HELD};
 use crate::model::sized::FAULTS;
 use crate::model::FUNCTIONS;
 
@@ -12,6 +13,9 @@ pub const STATES: u64 = 10_000;
 fn refusals() -> impl Iterator<Item = u8> {
     (10..=15).chain(20..=22).chain(30..=35)
 }
+
+/// Results of a taken step; of a step 8, where its message is then (RULES 5.8).
+const TAKEN: [u8; 2] = [DONE, HELD];
 
 const SUMS: [(&str, Sum); 3] = [
     ("at the top", Sum::AtTheTop),
@@ -61,6 +65,7 @@ impl Statistics {
             numbers("files refused with", 1..=4, &self.files),
             numbers("steps refused with", refusals(), &self.results),
             numbers("steps taken with code", 1..=10, &self.codes),
+            numbers("steps 8 taken with", TAKEN.into_iter(), &self.arrivals),
             numbers(
                 "updates asked for with function",
                 FUNCTIONS,
@@ -117,11 +122,10 @@ impl Statistics {
         missing(&self.needed())
     }
 
-    /// Refusals of a step that a file can cause and that never came.
-    pub fn refusals_missing(&self) -> Vec<u8> {
-        refusals()
-            .filter(|&n| times(&self.results, n) == 0)
-            .collect()
+    /// Results of a step that a file can cause and that never came.
+    pub fn results_missing(&self) -> Vec<u8> {
+        let results = TAKEN.into_iter().chain(refusals());
+        results.filter(|&n| times(&self.results, n) == 0).collect()
     }
 }
 
@@ -136,9 +140,9 @@ fn missing(needed: &[Needed]) -> Vec<String> {
 }
 
 /// What states made by hand never reached: states that are ill sized and some that are not, and
-/// from those every result that a step can have (RULES 8.2), also 6 for the outcome and 23.
+/// from those every result that a step can have (RULES 4.2, 8.2), also 6 for the outcome and 23.
 pub fn by_hand(states: usize, ill_sized: usize, results: &Counts<u8>) -> Vec<String> {
-    let of = [0, 6].into_iter().chain(refusals()).chain([23]);
+    let of = TAKEN.into_iter().chain([6, 23]).chain(refusals());
     missing(&[
         words(
             "states that are",
@@ -204,11 +208,13 @@ mod tests {
         let missing = statistics.missing();
         let total: usize = statistics.needed().iter().map(|one| one.items.len()).sum();
         // It has 22, codes 2 and 3, function 1, and one card, register and task.
-        assert_eq!((total, missing.len()), (59, 59 - 7));
+        assert_eq!((total, missing.len()), (61, 61 - 7));
         for name in [
             "files refused with 4",
             "steps refused with 34",
             "steps taken with code 10",
+            "steps 8 taken with 0",
+            "steps 8 taken with 100",
             "updates asked for with function 4",
             "sums made by function 2 at the top",
             "messages delivered reply to an update",
@@ -233,13 +239,19 @@ mod tests {
     #[test]
     fn each_thing_is_looked_for() {
         let all = of_seed(1, FILES);
-        let cases: [Taken; 10] = [
+        let cases: [Taken; 12] = [
             ("files refused with 2", |s| s.files.retain(|&n, _| n != 2)),
             ("steps refused with 35", |s| {
                 s.results.retain(|&n, _| n != 35)
             }),
             ("steps taken with code 8", |s| {
                 s.codes.retain(|&n, _| n != 8)
+            }),
+            ("steps 8 taken with 0", |s| {
+                s.arrivals.retain(|&n, _| n != 0)
+            }),
+            ("steps 8 taken with 100", |s| {
+                s.arrivals.retain(|&n, _| n != 100)
             }),
             ("updates asked for with function 3", |s| {
                 s.functions.retain(|&n, _| n != 3)
@@ -268,13 +280,17 @@ mod tests {
 
     #[test]
     fn states_made_by_hand() {
-        let results = [0, 6, 23].into_iter().chain(refusals());
-        let mut results: Counts<u8> = results.map(|number| (number, 1)).collect();
+        let results = [0, 6, 23, 100].into_iter().chain(refusals());
+        let results: Counts<u8> = results.map(|number| (number, 1)).collect();
         assert_eq!(by_hand(10, 3, &results), [""; 0]);
         assert_eq!(by_hand(10, 0, &results), ["states that are ill sized"]);
         assert_eq!(by_hand(10, 10, &results), ["states that are well sized"]);
-        results.remove(&6);
-        assert_eq!(by_hand(10, 3, &results), ["steps with result 6"]);
+        for number in [0, 6, 100] {
+            let mut results = results.clone();
+            results.remove(&number);
+            let missing = format!("steps with result {number}");
+            assert_eq!(by_hand(10, 3, &results), [missing]);
+        }
         let mut counts: Counts<_> = FAULTS.iter().map(|&(name, _)| (name, 1)).collect();
         assert_eq!(faults(&counts), [""; 0]);
         counts.remove("g: a tag");

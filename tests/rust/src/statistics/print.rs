@@ -3,6 +3,7 @@
 use std::fmt;
 
 use super::Statistics;
+use crate::model::results;
 
 impl fmt::Display for Statistics {
     fn fmt(&self, f: &mut fmt::Formatter) -> fmt::Result {
@@ -10,9 +11,11 @@ impl fmt::Display for Statistics {
             let items = items.iter().map(|(name, count)| format!("{name}: {count}"));
             items.collect::<Vec<_>>().join(", ")
         };
-        let of = |number| self.results.get(&number).copied().unwrap_or(0);
+        let taken = self.results.iter();
+        let taken = taken.filter(|(&result, _)| results::taken(result));
+        let taken: usize = taken.map(|(_, count)| count).sum();
         let files: usize = self.files.values().sum();
-        let (steps, taken) = (self.steps(), of(0));
+        let steps = self.steps();
         let share = 100.0 * taken as f64 / steps.max(1) as f64;
         let accepted = self.files.get(&0).copied().unwrap_or(0);
         writeln!(f, "files {files}, accepted {accepted}")?;

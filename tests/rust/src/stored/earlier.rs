@@ -1,10 +1,13 @@
 //! The stored runs of earlier versions, by checksum. The model is asked as it was then, and today's
-//! answers are told apart from those of then: `functions` of version 0.2.0, `behind` of 0.4.0.
+//! answers are told apart from those of then: `functions` of version 0.2.0, `behind` of 0.4.0, `held` of
+//! 0.6.0.
 
 mod behind;
 mod functions;
+mod held;
 
 use crate::model::files::{answer_from, Run};
+use crate::model::results::{DONE, HELD};
 use crate::model::State;
 use crate::statistics::Statistics;
 use crate::stored;
@@ -12,10 +15,10 @@ use crate::stored;
 /// How far behind a card could be up to version 0.4.0.
 const BEHIND_THEN: u32 = 64;
 
-/// The runs stored at version 0.4.0 and the checksums of their files, which are as they were; all but
-/// `counts`, `full3` and `mixed` are of 0.2.0. `past1` to `past4` were `k11`, `k12`, `behind` and
-/// `inbox`.
-const FILES: [(&str, u64); 12] = [
+/// The runs stored at version 0.6.0 and the checksums of their files, which are as they were. Those up
+/// to `mixed` are of 0.4.0, and all of these but `counts`, `full3` and `mixed` of 0.2.0. `past1` to
+/// `past4` were `k11`, `k12`, `behind` and `inbox`.
+const FILES: [(&str, u64); 17] = [
     ("past1", 0xE65B_7005_50C7_8E5F),
     ("past2", 0xF07C_3BE4_5331_A0A2),
     ("past3", 0xF3D5_93A2_95FD_27DF),
@@ -28,6 +31,11 @@ const FILES: [(&str, u64); 12] = [
     ("guided", 0x5E31_5025_3A8B_0339),
     ("full3", 0x84CF_56CF_64D0_C4CE),
     ("mixed", 0x2CD5_48EE_3BD2_81CF),
+    ("k11", 0x9D5C_D7BD_297D_B4F0),
+    ("k12", 0xFE11_4C54_2126_6442),
+    ("behind", 0x5354_38D7_4017_4124),
+    ("inbox", 0xF1A9_9520_9081_B051),
+    ("full4", 0xD395_E73F_D15D_6C18),
 ];
 
 /// FNV-1a in 64 bits.
@@ -44,9 +52,23 @@ fn started(run: &Run) -> State {
     state
 }
 
-/// What a run is answered with the limit of then.
+/// What a run was answered with the limit of then.
 fn answered(run: &Run) -> Vec<u8> {
-    answer_from(started(run), &run.steps)
+    held_as_taken(answer_from(started(run), &run.steps))
+}
+
+/// An answer as it was up to version 0.6.0, where a held message had the result of any taken step: each
+/// 100 a 0. Only results are looked at, for a value may have a byte 100 too.
+fn held_as_taken(mut answer: Vec<u8>) -> Vec<u8> {
+    if let [low, high, rest @ ..] = &mut answer[..] {
+        let steps = u16::from_le_bytes([*low, *high]) as usize;
+        for result in rest.iter_mut().take(steps) {
+            if *result == HELD {
+                *result = DONE;
+            }
+        }
+    }
+    answer
 }
 
 /// What it has and reaches with the limit of then.

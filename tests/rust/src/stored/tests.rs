@@ -52,11 +52,11 @@ fn limits_are_reached() {
 
 /// `full4`, and still `full2`, though it was made as those below.
 #[test]
-fn full_files_have_every_limit_and_refusal() {
+fn full_files_have_every_limit_and_result() {
     for name in ["full2", "full4"] {
         let statistics = statistics(name);
         assert!(statistics.lengths.contains_key(&4_096));
-        assert_eq!(statistics.refusals_missing(), [], "{name}");
+        assert_eq!(statistics.results_missing(), [], "{name}");
         assert_eq!(statistics.largest, LIMITS, "{name}");
     }
 }
@@ -67,7 +67,7 @@ fn full_files_of_before() {
     for (name, inbox, undelivered) in [("full1", 47, 31), ("full3", 46, 30)] {
         let statistics = statistics(name);
         assert!(statistics.lengths.contains_key(&4_096));
-        assert_eq!(statistics.refusals_missing(), [35], "{name}");
+        assert_eq!(statistics.results_missing(), [35], "{name}");
         let reached = Largest {
             inbox,
             undelivered,

@@ -1,5 +1,8 @@
 //! The cases of `view` that are kept: every phrase, and all that could lose its column.
 
+#[cfg(test)]
+mod tests;
+
 use super::view;
 use crate::folder::File;
 use crate::generate;
@@ -213,85 +216,4 @@ fn wide_numbers() -> Vec<u8> {
         ]);
     }
     Run { placement, steps }.write()
-}
-
-#[cfg(test)]
-mod tests {
-    use super::super::FILES;
-    use super::*;
-    use crate::folder;
-    use crate::sentence::PHRASES;
-
-    fn text(name: &str) -> String {
-        let mut cases = cases().into_iter();
-        view(&cases.find(|case| case.name == name).expect("a case").file)
-    }
-
-    #[test]
-    fn the_stored_files_are_these() {
-        let cases = folder::of_tree("crates/view/cases");
-        assert_eq!(folder::compare(&cases, &files()), Ok(()));
-    }
-
-    /// Every phrase of a step but those of 6 and 23, which no file causes; every step taken and
-    /// every function.
-    #[test]
-    fn phrases() {
-        let text = text("every_phrase");
-        for (number, phrase) in PHRASES {
-            let words = format!("refused {number}: {phrase}\n");
-            assert_eq!(text.contains(&words), !matches!(number, 6 | 23), "{words}");
-        }
-        for name in super::super::NAMES {
-            let line = |line: &str| line[6..].starts_with(name) && line.ends_with("taken");
-            let steps = text.lines().filter(|line| line.len() > 79);
-            let reports = text.lines().any(|line| line.ends_with("taken, value 5"));
-            assert!(steps.clone().any(line) || name == "report" && reports);
-        }
-        for name in super::super::NAMED_FUNCTIONS {
-            let column = |line: &str| line.get(46..).is_some_and(|rest| rest.starts_with(name));
-            assert!(text.lines().any(column), "{name}");
-        }
-        assert!(text.contains("taken, value 0\n"));
-        // 4,294,967,295 and 3 with function 2, then 3 more with function 5.
-        assert!(text.contains("taken, value 2\n"));
-    }
-
-    #[test]
-    fn refused_files() {
-        let names = ["too_short", "too_long", "size_out_of_range", "no_copy"];
-        for ((number, phrase), name) in FILES.iter().zip(names) {
-            assert_eq!(text(name), format!("refused {number}: {phrase}\n"));
-        }
-        assert_eq!(text("empty"), text("too_short"));
-    }
-
-    #[test]
-    fn wide_and_raw() {
-        let wide = text("wide_numbers");
-        assert!(wide.starts_with("cards 8, registers 32, tasks 16, steps 1107\n"));
-        assert_eq!(wide.matches("taken, value 4294967295\n").count(), 2);
-        assert!(wide.contains("  set                   4294967295 taken\n"));
-        for words in ["task 255  register 255", "card 255", "\n1106  report"] {
-            assert!(wide.contains(words), "{words}");
-        }
-        let raw = text("raw_bytes");
-        assert_eq!(raw.matches("  bytes ").count(), 12 + 30 + 9 + 1);
-        for number in [10, 11, 12, 13, 15] {
-            let refused = format!("refused {number}: ");
-            assert!(raw
-                .lines()
-                .any(|line| line.contains("bytes") && line.contains(&refused)));
-        }
-    }
-
-    /// The longest file there is, most of its steps taken, some refused.
-    #[test]
-    fn full() {
-        let case = cases().pop().expect("a case");
-        assert_eq!((case.name, case.file.len()), ("full", 36_949));
-        let text = view(&case.file);
-        assert!(text.contains("\n4095  "));
-        assert!(text.contains("refused") && text.contains(", value ") && text.contains("bytes"));
-    }
 }

@@ -10,7 +10,7 @@ use Rattle.store.specs.Step.{advanced}
 use Rattle.store.specs.Run.{Store}
 use Rattle.runfile.specs.RunFile.{stepsIn, stepIn, codeIn, argumentIn}
 use Rattle.runfile.specs.AnswerFile.{headed, putAnswer, putAnswers}
-use Rattle.tally.specs.Tally.{isTaken}
+use Rattle.names.specs.Results.{isTaken}
 use Rattle.runfile.specs.Stepwise.{stored, storeAt, answerAt}
 use Rattle.runfile.proofs.StepwiseLaws.{store-zero, store-more, answer-is, both-counted}
 use borrow.Author.Needs.{needs}

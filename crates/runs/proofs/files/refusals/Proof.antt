@@ -4,19 +4,10 @@ use Rattle.runs.proofs.files.refusals.Statement.{statement}
 use Rattle.runs.proofs.files.refusals.Tie as tie
 
 abbrev Inv-loop : tie.InvT-loop
-Inv-loop page₀ at out end next₀ number₀ page next number = Unit
+Inv-loop page₀ at out next₀ number₀ page next number = Unit
 
 abbrev μ-loop : tie.MeasureT-loop
-μ-loop page₀ at out end next₀ number₀ page next number = 256 - number
-
-steps-requires : tie.Need-steps-requires Inv-loop μ-loop
-steps-requires c κs = search needs
-
-wide-requires : tie.Need-wide-requires Inv-loop μ-loop
-wide-requires c κs = search needs
-
-add-end : tie.Need-add-end Inv-loop μ-loop
-add-end c = search needs
+μ-loop page₀ at out next₀ number₀ page next number = 256 - number
 
 slice-aggregate-say : tie.Need-slice-aggregate-say Inv-loop μ-loop
 slice-aggregate-say c = search needs
@@ -48,9 +39,6 @@ refusals-spec =
     (tie.spec
     Inv-loop
     μ-loop
-    steps-requires
-    wide-requires
-    add-end
     slice-aggregate-say
     say-requires
     loop-holds

@@ -1,13 +1,11 @@
 //! Texts that are runs, each with its file.
 
-use super::{more, padded, text, with, PLAIN};
+use super::{answered, more, padded, text, with, PLAIN};
 use crate::model::files::{RawStep, Run};
 use crate::model::placement::Placement;
-use crate::named;
 use crate::steps::*;
-use crate::view::view;
 
-type Good = (&'static str, Vec<u8>, Vec<u8>);
+pub type Good = (&'static str, Vec<u8>, Vec<u8>);
 
 /// The run of the plain text, with other steps.
 fn plain(steps: Vec<RawStep>) -> Vec<u8> {
@@ -16,7 +14,7 @@ fn plain(steps: Vec<RawStep>) -> Vec<u8> {
 }
 
 /// One card, task and register, with these steps.
-fn small(steps: Vec<RawStep>) -> Vec<u8> {
+pub fn small(steps: Vec<RawStep>) -> Vec<u8> {
     let placement = Placement::new(1, &[0], &[(1, 0)]);
     Run { placement, steps }.write()
 }
@@ -28,7 +26,7 @@ const SMALL: [&str; 3] = [
     "register 0 primary card 0 copies on 0",
 ];
 
-fn small_text(steps: &[&str]) -> Vec<u8> {
+pub fn small_text(steps: &[&str]) -> Vec<u8> {
     text([&SMALL, steps].concat())
 }
 
@@ -61,14 +59,13 @@ pub fn cases() -> Vec<Good> {
             more(8, &["taken 1 refused 1", "", " ,", "\r"]),
             two(),
         ),
-        answers(),
         holders(),
         largest_numbers(),
         leading_zeros(),
         hex(),
         longest_lines(),
     ];
-    cases.extend(printed());
+    cases.extend(answered::cases());
     cases
 }
 
@@ -173,32 +170,6 @@ fn blanks() -> Good {
     ("blanks", words.into(), run)
 }
 
-/// Numbers before some of the steps, answers behind some, with anything up to the end of the line.
-fn answers() -> Good {
-    let mut words = small_text(&[
-        "0 dispatch card 0 taken",
-        "report task 1 refused",
-        "2 report task 2 taken, value 7",
-        "report task 3 refused 21: the task is not ready for this step",
-        "bytes 0b 00 00 00 00 00 00 00 00 refused 10: there is no such step",
-        "request update task 0 register 0 set 5 taken taken 9 cards 3",
-        "request update task 0 register 0 or 4294967295 refused refused",
-    ]);
-    words.extend(b"7 perform task 0 taken \0\xFF\xC3 ;#\n");
-    words.extend(b"taken 4, refused 4\n");
-    let steps = vec![
-        dispatch(0),
-        report(1),
-        report(2),
-        report(3),
-        (11, [0; 8]),
-        request_update(0, 0, 1, 5),
-        request_update(0, 0, 4, u32::MAX),
-        perform(0),
-    ];
-    ("answers", words, small(steps))
-}
-
 /// In any order, and one twice.
 fn holders() -> Good {
     let words = text([
@@ -279,25 +250,4 @@ fn longest_lines() -> Good {
     let steps = vec![report(1), report(2), dispatch(7), report(3)];
     let words = lines.join("\n");
     ("longest_lines", words.into(), small(steps))
-}
-
-/// What `view` prints of K9: with other line ends, without its last newline, and with all left out
-/// that may be.
-fn printed() -> Vec<Good> {
-    let mut runs = named::runs().into_iter();
-    let file = runs.find(|run| run.name == "K9").expect("a named run").file;
-    let words = view(&file);
-    let other = words.replace('\n', "\r\n");
-    let cut = words.trim_end().to_string();
-    let without = words.lines().map(|line| {
-        let end = line.find("taken").or(line.find("refused"));
-        let asked = &line[..end.unwrap_or(line.len())];
-        asked.trim_start_matches([' ', '0', '1', '2', '3', '4', '5', '6', '7', '8', '9'])
-    });
-    let without = without.collect::<Vec<_>>().join("\n");
-    vec![
-        ("other_line_ends", other.into(), file.clone()),
-        ("no_last_newline", cut.into(), file.clone()),
-        ("left_out", without.into(), file),
-    ]
 }

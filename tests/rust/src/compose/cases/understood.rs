@@ -6,7 +6,7 @@ use super::{more, padded, text, with, PLAIN};
 type Words = (&'static str, usize, &'static str);
 
 /// Sizes, tasks, registers and counts.
-const PLACED: [Words; 29] = [
+const PLACED: [Words; 31] = [
     ("upper_case", 1, "Cards 2"),
     ("no_number", 1, "cards"),
     ("cards_4294967296", 1, "cards 4294967296"),
@@ -64,6 +64,8 @@ const PLACED: [Words; 29] = [
     ("counts_in_words", 8, "taken one refused one"),
     ("counts_4294967296", 8, "taken 4294967296 refused 0"),
     ("word_after_counts", 8, "taken 1 refused 1 steps"),
+    ("counts_held", 8, "held 1 refused 1"),
+    ("counts_with_held", 8, "taken 1 held 1 refused 0"),
     (
         "refused_file",
         1,
@@ -72,7 +74,7 @@ const PLACED: [Words; 29] = [
 ];
 
 /// Steps, the first of the text.
-const STEPS: [Words; 44] = [
+const STEPS: [Words; 47] = [
     ("unknown_step", 6, "jump card 0"),
     ("step_glued", 6, "dispatchcard 0"),
     ("step_cut", 6, "dispatch card"),
@@ -133,6 +135,9 @@ const STEPS: [Words; 44] = [
     ("number_after_step", 6, "dispatch card 0 0"),
     ("takenx", 6, "dispatch card 0 takenx"),
     ("taken_upper_case", 6, "dispatch card 0 Taken"),
+    ("heldx", 6, "take single task 0 heldx"),
+    ("held_cut", 6, "take single task 0 hel"),
+    ("held_before_step", 6, "held take single task 0"),
     ("refused_glued", 6, "dispatch card 0 refused:33"),
     ("number_alone", 6, "0"),
     ("number_of_answer", 6, "0 taken"),

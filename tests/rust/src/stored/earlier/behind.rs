@@ -2,7 +2,7 @@
 //! which some card was then further behind than it can be now is worked out again; any other is
 //! answered as it was.
 
-use super::{answered, checksum, read, statistics, FILES};
+use super::{answered, checksum, held_as_taken, read, statistics, FILES};
 use crate::generate;
 use crate::model::channel::BEHIND;
 use crate::model::files::{program_output, Run};
@@ -31,7 +31,8 @@ fn past(file: &[u8]) -> bool {
 
 /// The results of then and now at the first step where they are not the same.
 fn changed(file: &[u8]) -> Option<(u8, u8)> {
-    let mut bytes = answered(&read(file)).into_iter().zip(program_output(file));
+    let now = held_as_taken(program_output(file));
+    let mut bytes = answered(&read(file)).into_iter().zip(now);
     // The results come before the values (RULES 4.1), so this is one of them.
     bytes.find(|(then, now)| then != now)
 }
@@ -41,7 +42,8 @@ const REFUSED: (u8, u8) = (0, 34);
 
 #[test]
 fn stored_answers() {
-    assert!(RUNS.iter().map(|run| run.0).eq(FILES.map(|file| file.0)));
+    let files = FILES.iter().take_while(|file| file.0 != "k11");
+    assert!(RUNS.iter().map(|run| run.0).eq(files.map(|file| file.0)));
     for (name, then, again) in RUNS {
         let file = stored::file(name);
         assert_eq!(checksum(&answered(&read(&file))), then, "{name}");
