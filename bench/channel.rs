@@ -13,7 +13,7 @@ enum Body {
     ReadDo,
     UpdateDo(u32, u32),
     ReadReply(u32),
-    UpdateReply,
+    UpdateReply(u32),
 }
 
 #[derive(Clone, Copy)]
@@ -163,7 +163,7 @@ impl Channel {
 
 fn value(m: Option<Message>) -> u32 {
     match m.map(|m| m.body) {
-        Some(Body::UpdateDo(_, v)) | Some(Body::ReadReply(v)) => v,
+        Some(Body::UpdateDo(_, v) | Body::ReadReply(v) | Body::UpdateReply(v)) => v,
         _ => 0,
     }
 }

@@ -1,12 +1,12 @@
 /* The proved register store for firmware, in C11 and C++ (x86-64 Linux). `firmware/install PREFIX`
  * installs it; then `cc main.c $(pkg-config --cflags --libs gondzselu)`. The rules are in
  * docs/RULES.md and cited by number ("RULES 8.5"): what the steps do, when they are refused, what
- * is promised of a run. firmware/c/k9.c is a first program.
+ * is promised of a run. firmware/c/k9.c is a first program; tickets.c there hands out numbers.
  *
  * Memory    A store is two memories that the caller lends, changed in place, aligned as uint32_t:
  *           7,508 bytes. Each has its type, so that swapped ones do not compile (older C compilers
  *           only warn: use -Werror). Any words are safe to lend (RULES 11.2). What lies where is in
- *           RULES 11.12; a store kept by a library of before 0.5.0 is no store here. The library
+ *           RULES 11.12; a store kept by a library of before 0.8.0 is no store here. The library
  *           keeps nothing elsewhere, and needs memcpy and memset and no other function.
  * Pointers  None is NULL, also where a length is 0. What a call writes overlaps nothing else that
  *           it is given (RULES 11.2).
@@ -32,7 +32,7 @@ extern "C" {
 /* ---- version */
 
 #define GONDZSELU_VERSION_MAJOR 0
-#define GONDZSELU_VERSION_MINOR 7
+#define GONDZSELU_VERSION_MINOR 8
 #define GONDZSELU_VERSION_PATCH 0
 #define GONDZSELU_VERSION \
     (GONDZSELU_VERSION_MAJOR * 1000000 + GONDZSELU_VERSION_MINOR * 1000 + GONDZSELU_VERSION_PATCH)
@@ -112,8 +112,8 @@ enum gondzselu_condition {
     GONDZSELU_ASKING_READ = 1,
     GONDZSELU_ASKING_UPDATE = 2,
     GONDZSELU_WAITING = 3,
-    GONDZSELU_DONE_READ = 4,
-    GONDZSELU_DONE_UPDATE = 5
+    GONDZSELU_DONE_READ = 4,  /* with the value read */
+    GONDZSELU_DONE_UPDATE = 5 /* with the value found: the copy's, just before the update */
 };
 
 /* What the calls give (RULES 8.2). A refusal changes nothing that is lent; but the value of a step
@@ -189,7 +189,9 @@ uint8_t gondzselu_start_file(gondzselu_registers *registers, gondzselu_channel *
 /* Takes a step: its code and its eight argument bytes (RULES 3.3), which gondzselu_fill_..
  * writes. First checks the whole state. Gives 0, or 100 where step 8's message is held; or 6 to 35
  * in the order of RULES 8.5 with both memories as they were. gondzselu_taken says which it is.
- * Writes the value in every case: what a reported read gave, else 0. */
+ * Writes the value in every case: at a taken report the value that was read, or that the update
+ * found; else 0. So a counter hands out numbers: tasks that add 1 to a register, on whichever cards
+ * they are, are told 0, 1, 2 and so on, none of them twice before the top (RULES 5.15). */
 uint8_t gondzselu_step(gondzselu_registers *registers, gondzselu_channel *channel,
                        uint8_t code, const uint8_t argument[8], uint32_t *value);
 
@@ -316,7 +318,8 @@ uint32_t gondzselu_copy(const gondzselu_registers *registers, const gondzselu_ch
 uint32_t gondzselu_task(const gondzselu_registers *registers, const gondzselu_channel *channel,
                         uint32_t task);
 
-/* The value read in GONDZSELU_DONE_READ, the operand in GONDZSELU_ASKING_UPDATE, else 0. */
+/* The value read in GONDZSELU_DONE_READ, the value found in GONDZSELU_DONE_UPDATE, the operand in
+ * GONDZSELU_ASKING_UPDATE, else 0. */
 uint32_t gondzselu_task_value(const gondzselu_registers *registers,
                               const gondzselu_channel *channel, uint32_t task);
 

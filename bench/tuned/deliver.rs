@@ -24,23 +24,27 @@ impl Store {
             UPDATE => {
                 let placed = self.register[register];
                 let far = placed >> HOLDERS >> home & 1 == 0;
+                let found = self.copies[card][register];
                 if far && lowest(placed) as usize == card {
                     if self.outbox_count[card] as usize >= OUTBOX {
                         return refused(6);
                     }
-                    self.reply(card, REPLY_UPDATE, word, home, 0);
+                    self.reply(card, REPLY_UPDATE, word, home, found);
                 }
-                let copy = &mut self.copies[card][register];
-                *copy = apply(word >> FUNCTION, *copy, value);
+                self.copies[card][register] = apply(word >> FUNCTION, found, value);
                 if home == card {
                     self.task[task] = with_condition(doing, DONE_UPDATE);
+                    self.value[task] = found;
                 }
             }
             REPLY_READ => {
                 self.task[task] = with_condition(doing, DONE_READ);
                 self.value[task] = value;
             }
-            _ => self.task[task] = with_condition(doing, DONE_UPDATE),
+            _ => {
+                self.task[task] = with_condition(doing, DONE_UPDATE);
+                self.value[task] = value;
+            }
         }
         self.inbox_head[card] = if place == INBOX - 1 {
             0

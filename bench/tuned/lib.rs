@@ -67,7 +67,7 @@ pub struct Store {
     copies: [[u32; 32]; 8],
     register: [u32; 32],
     task: [u32; 16],
-    /// By task: the operand, or the value read.
+    /// By task: the operand, or the value read or found.
     value: [u32; 16],
     outbox_head: [u32; 8],
     outbox_count: [u32; 8],

@@ -104,9 +104,9 @@ pub fn answer(file: &[u8], output: &mut [u8]) -> u8 {
     let mut store = parts.start();
     let steps = parts.codes.iter().zip(parts.arguments);
     for ((&code, &argument), (result, value)) in steps.zip(results.iter_mut().zip(values)) {
-        let (taken, read) = store.step_reached(code, argument);
+        let (taken, given) = store.step_reached(code, argument);
         *result = taken;
-        *value = read.to_le_bytes();
+        *value = given.to_le_bytes();
     }
     0
 }

@@ -40,23 +40,24 @@ impl Store {
         let (home, register) = (home(doing), asked(doing));
         let holders = self.register[register] >> HOLDERS;
         let copy = &mut self.copies[home][register];
+        let found = *copy;
         match lowest(doing) {
             READ => {
                 if holders >> home & 1 == 0 {
                     return refused(22);
                 }
-                self.value[task] = *copy;
                 self.task[task] = with_condition(doing, DONE_READ);
             }
             UPDATE => {
                 if holders != 1 << home {
                     return refused(22);
                 }
-                *copy = apply(doing >> ASKED_FUNCTION, *copy, self.value[task]);
+                *copy = apply(doing >> ASKED_FUNCTION, found, self.value[task]);
                 self.task[task] = with_condition(doing, DONE_UPDATE);
             }
             _ => return refused(21),
         }
+        self.value[task] = found;
         TAKEN
     }
 
@@ -115,12 +116,10 @@ impl Store {
 
     pub(crate) fn report(&mut self, task: usize) -> Answer {
         let doing = self.task[task];
-        let value = match lowest(doing) {
-            DONE_READ => self.value[task],
-            DONE_UPDATE => 0,
-            _ => return refused(21),
-        };
+        if !matches!(lowest(doing), DONE_READ | DONE_UPDATE) {
+            return refused(21);
+        }
         self.task[task] = with_condition(doing, QUIET);
-        (0, value)
+        (0, self.value[task])
     }
 }

@@ -2,7 +2,7 @@
 //! bits above. What is used as an index is masked to its array.
 
 /// Two words, as in the proved store: a packed one, and the operand of an update or the value of a
-/// reply to a read.
+/// reply, read or found.
 #[derive(Clone, Copy, PartialEq)]
 pub struct Message {
     pub word: u32,

@@ -40,7 +40,7 @@ int main(void) {
     if (gondzselu_start(&r, &c, CARDS, homes, TASKS, copies, REGISTERS, primaries, REGISTERS))
         return fail("the placement is refused");
     for (int i = 0; i < STEPS; i++, putchar('\n')) {
-        uint32_t value; /* what a reported read gave; K9 reports no update, which would give 0 */
+        uint32_t value; /* of a report: what was read, or what an update found; else 0 */
         uint8_t n = gondzselu_step_counted(&r, &c, steps[i].code, a[i], &value, &tally);
         const char *said = n == GONDZSELU_HELD ? "held" : gondzselu_taken(n) ? "taken" : "refused";
         printf("%2d  %-39s%3d %s", i, steps[i].words, n, said);

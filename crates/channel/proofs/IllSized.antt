@@ -53,7 +53,7 @@ module _ (cs : List ℕ) (l : Letter) where
       go : (f ≡ 0) ⊎ (5 < f) → PastLimit cs l
       go (inl z) = no-function v (rw z at q)
       go (inr h) = unknown-function f v q h
-  body-fails UpdateReply q e = absurd (clash refl e)
+  body-fails (UpdateReply v) q e = absurd (clash refl e)
 
   fits-fails : fits cs l ≡ false → PastLimit cs l
   unfolding fits addressed

@@ -54,7 +54,7 @@ unfolding known functionOf knownFunction
 function-small ReadDo e = omega arith
 function-small (ReadReply v) e = omega arith
 function-small (UpdateDo f v) e = let m = leb-true f 5 (and-snd (leb 1 f) (leb f 5) e) in omega arith
-function-small UpdateReply e = omega arith
+function-small (UpdateReply v) e = omega arith
 
 module _ (ws : List ℕ) (l : Letter) (f : fits ws l ≡ true) where
   -- its destinations are present cards
@@ -111,12 +111,12 @@ pub function-known : (k f v : ℕ) → known (bodyOf k f v) ≡ functionFits k f
 unfolding functionFits bodyOf known
 function-known k f v = go (ℕ-discrete k 2)
   where
-    others : (a b : Bool) → known (cond a ReadDo (cond b (ReadReply v) UpdateReply)) ≡ true
+    others : (a b : Bool) → known (cond a ReadDo (cond b (ReadReply v) (UpdateReply v))) ≡ true
     others true b = refl
     others false true = refl
     others false false = refl
 
-    go : Dec (k ≡ 2) → known (cond (eqb k 1) ReadDo (cond (eqb k 2) (UpdateDo f v) (cond (eqb k 3) (ReadReply v) UpdateReply))) ≡ (not (eqb k 2) || knownFunction f)
+    go : Dec (k ≡ 2) → known (cond (eqb k 1) ReadDo (cond (eqb k 2) (UpdateDo f v) (cond (eqb k 3) (ReadReply v) (UpdateReply v)))) ≡ (not (eqb k 2) || knownFunction f)
     go (yes e) = rw e
     go (no n) = rw (ne-eqb k 2 n) (others (eqb k 1) (eqb k 3))
 

@@ -29,7 +29,7 @@ fn operand(body: Body) -> u32 {
         Body::ReadDo => 0,
         Body::ReadReply(v) => v,
         Body::UpdateDo(_, v) => v,
-        Body::UpdateReply => 0,
+        Body::UpdateReply(v) => v,
     }
 }
 

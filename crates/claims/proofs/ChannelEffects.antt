@@ -1,4 +1,4 @@
--- Steps 6 to 9 do the same to the published state and to the ledger.
+-- Steps 6 to 9 do the same to the state of the algorithm that the store runs and to the ledger.
 use Prim.Native.Nat.{ℕ}
 use lib.Dec.{eqb}
 use lib.ListN.{length}
@@ -21,14 +21,15 @@ use Rattle.registers.proofs.Fresh.{sender}
 use Rattle.registers.specs.Layer.{Msg, ask, from, reply, to}
 use Rattle.claims.proofs.Current.{delivered-current, holds-now}
 use Rattle.claims.proofs.Executions.{Execution, Holds, trace}
+use Rattle.claims.proofs.FoundShown.{alike, sent-alike, showMsg, showStatus, shown}
 use Rattle.claims.proofs.Joint.{upper}
 use Rattle.claims.proofs.LedgerRun.{Sim, ord, rk, valid}
-use Rattle.claims.proofs.Shown.{alike, numbers, sent-alike, showMsg, showStatus, shown}
+use Rattle.claims.proofs.Shown.{numbers}
 use Rattle.claims.proofs.Stable.{S, hold}
 use Rattle.claims.proofs.TaskEffects.{copy-set, out-set, status-set}
 use Rattle.claims.specs.Ledger.{Action, Ledger, Op, ledger, ledgerMail, opAt, world}
 use Rattle.claims.specs.Holders.{inSet}
-use Rattle.claims.specs.Published.{Letter, delivering, dispatching, doneRead, doneUpdate, effect, mail, post, receiving, replyTo, setStatus, withChannel}
+use Rattle.claims.specs.Found.{Letter, delivering, dispatching, doneRead, doneUpdate, effect, mail, post, receiving, replyTo, setStatus, withChannel}
 use Rattle.automaton.specs.State as C
 use Rattle.registers.specs.Layer as R
 use Rattle.claims.specs.Command as K
@@ -93,17 +94,17 @@ module _ (P : Placement) (ok : placementRefusal P ≡ 0) (ds : List (Action numb
       o : Op
       o = opAt (before .ops) k
 
-      go : (t : Bool) → o .upd ≡ t → receiving P (shown P ds) i (h (reply k v)) (cond t UpdateReply (ReadReply v)) ≡ shown P (Action.deliver (reply k v) i ∷ ds)
+      go : (t : Bool) → o .upd ≡ t → receiving P (shown P ds) i (h (reply k v)) (cond t (UpdateReply v) (ReadReply v)) ≡ shown P (Action.deliver (reply k v) i ∷ ds)
       go true u = λ z. record {
         requests = length (before .ops);
-        status = λ a. status-set (before .ops) (o .task) (o .task) doneUpdate (R.done k v) (before .layer .status) refl (ap (λ t. cond t doneUpdate (doneRead v)) u) a z;
+        status = λ a. status-set (before .ops) (o .task) (o .task) (doneUpdate v) (R.done k v) (before .layer .status) refl (ap (λ t. cond t (doneUpdate v) (doneRead v)) u) a z;
         table = T;
         out = λ a. map h (before .layer .out a);
         channel = popped i z;
       }
       go false u = λ z. record {
         requests = length (before .ops);
-        status = λ a. status-set (before .ops) (o .task) (o .task) (doneRead v) (R.done k v) (before .layer .status) refl (ap (λ t. cond t doneUpdate (doneRead v)) u) a z;
+        status = λ a. status-set (before .ops) (o .task) (o .task) (doneRead v) (R.done k v) (before .layer .status) refl (ap (λ t. cond t (doneUpdate v) (doneRead v)) u) a z;
         table = T;
         out = λ a. map h (before .layer .out a);
         channel = popped i z;
@@ -124,8 +125,8 @@ module _ (P : Placement) (ok : placementRefusal P ≡ 0) (ds : List (Action numb
       and-true false = refl
 
       statuses : (s : Bool) (a : ℕ) → o .upd ≡ true
-          → cond s (setStatus (o .task) doneUpdate ((shown P ds) .status)) ((shown P ds) .status) a ≡ showStatus (before .ops) (cond (s && eqb (o .task) a) (R.done k v) (before .layer .status a))
-      statuses true a u = status-set (before .ops) (o .task) (o .task) doneUpdate (R.done k v) (before .layer .status) refl (ap (λ t. cond t doneUpdate (doneRead v)) u) a
+          → cond s (setStatus (o .task) (doneUpdate v) ((shown P ds) .status)) ((shown P ds) .status) a ≡ showStatus (before .ops) (cond (s && eqb (o .task) a) (R.done k v) (before .layer .status a))
+      statuses true a u = status-set (before .ops) (o .task) (o .task) (doneUpdate v) (R.done k v) (before .layer .status) refl (ap (λ t. cond t (doneUpdate v) (doneRead v)) u) a
       statuses false a u = refl
 
       outs : (p : Bool) (n : Letter) (a : ℕ) → h (reply k v) ≡ n → cond p (post i n ((shown P ds) .out)) ((shown P ds) .out) a ≡ map h (push (eqb a i && p) (reply k v) (before .layer .out a))
@@ -149,7 +150,7 @@ module _ (P : Placement) (ok : placementRefusal P ≡ 0) (ds : List (Action numb
         requests = length (before .ops);
         status = λ a. (statuses (eqb i (home P (o .task))) a u ∙ ap (λ t. showStatus (before .ops) (cond (t && eqb i (home P (o .task)) && eqb (o .task) a) (R.done k v) (before .layer .status a))) (sym u)) z;
         table = λ a x. (copy-set T (updated (o .fn) (o .arg)) i (o .reg) a x ∙ ap (λ t. cond (t && eqb a i && eqb (o .reg) x) (updated (o .fn) (o .arg) (T a x)) (T a x)) (sym u)) z;
-        out = λ a. (outs primarily (replyTo P (h (ask k)) UpdateReply) a (ap (λ t. record { task = o .task; reg = o .reg; body = cond t UpdateReply (ReadReply v); to = justOf (home P (o .task)) }) u)
+        out = λ a. (outs primarily (replyTo P (h (ask k)) (UpdateReply v)) a (ap (λ t. record { task = o .task; reg = o .reg; body = cond t (UpdateReply v) (ReadReply v); to = justOf (home P (o .task)) }) u)
             ∙ ap₂ (λ t p. map h (push (eqb a i && cond t p true) (reply k v) (before .layer .out a))) (sym u) same-answer) z;
         channel = popped i z;
       }
@@ -158,7 +159,7 @@ module _ (P : Placement) (ok : placementRefusal P ≡ 0) (ds : List (Action numb
         status = λ a. ap (λ t. showStatus (before .ops) (cond (t && eqb i (home P (o .task)) && eqb (o .task) a) (R.done k v) (before .layer .status a))) (sym u) z;
         table = λ a x. ap (λ t. cond (t && eqb a i && eqb (o .reg) x) (updated (o .fn) (o .arg) (T a x)) (T a x)) (sym u) z;
         out = λ a. (outs true (replyTo P (h (ask k)) (ReadReply v)) a
-            (ap (λ t. record { task = o .task; reg = o .reg; body = cond t UpdateReply (ReadReply v); to = justOf (home P (o .task)) }) u)
+            (ap (λ t. record { task = o .task; reg = o .reg; body = cond t (UpdateReply v) (ReadReply v); to = justOf (home P (o .task)) }) u)
             ∙ ap (λ t. map h (push (eqb a i && cond t its-own true) (reply k v) (before .layer .out a))) (sym u)) z;
         channel = popped i z;
       }

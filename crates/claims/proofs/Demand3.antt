@@ -1,15 +1,15 @@
--- Demand 3 for the published algorithm run from a start: any list of steps is explained by one serial order (specs/SerialOrder).
+-- Demand 3 for the algorithm that the store runs, from a start: any list of steps is explained by one serial order (specs/SerialOrder).
 use Prim.Native.Nat.{ℕ}
 use lib.Dec.{eqb}
 use lib.ListN.{length}
-use mathlib.Core.Bool.{cond, false, true, _&&_}
+use mathlib.Core.Bool.{cond, true, _&&_}
 use mathlib.Core.List.{List, [], map, _++_, _∷_}
 use mathlib.Core.Logic.{inl, inr, _⊎_}
 use mathlib.Core.Option.{Option, Option·none-ne-some, Option·some-injective, none, some}
 use mathlib.Core.Path.{ap, ap₂, refl, subst, sym, _∙_, _≡_}
 use native.Mathlib.Omega.{arith}
 use Rattle.lists.specs.Filters.{filter}
-use Rattle.lists.specs.Histories.{Any, In, Suf, any-map, any-nil, at-any, back, here, stop, suf-now, suf-trans, there}
+use Rattle.lists.specs.Histories.{Any, In, Suf, any-map, any-nil, at-any, here, suf-now, there}
 use Rattle.lists.specs.HistoryMaps.{any-into}
 use Rattle.lists.specs.Places.{nth}
 use Rattle.lists.specs.Made.{make}
@@ -17,20 +17,16 @@ use Rattle.names.specs.Placement.{Placement, placementRefusal}
 use Rattle.names.specs.Update.{updated}
 use Rattle.registers.specs.Layer.{unvalued}
 use Rattle.claims.proofs.Demand.{Demand3, IsReport, Tells, demand3}
-use Rattle.claims.proofs.Executions.{Holds, execution-suf, holds-suf, trace}
 use Rattle.claims.proofs.Forgetting.{book-forget, forgetAction, forgetLedger, notes-forget, paper-forget}
-use Rattle.claims.proofs.LedgerRun.{Sim, ended-requested, op-same}
-use Rattle.claims.proofs.LedgerRuns.{sim}
 use Rattle.claims.proofs.Shown.{numbers}
 use Rattle.claims.proofs.Taken.{executes, paper-append, paper-snoc, paper-suf}
 use Rattle.claims.proofs.Together.{answer-at, answer-is, together}
 use Rattle.claims.specs.Ledger.{Action, Ledger, Op, ledger, ledgerRefusal, noted, notes, opAt, paper, paperFrom, plan}
-use Rattle.claims.specs.Published.{begin, post}
-use Rattle.claims.specs.PublishedRun.{answersFrom, publishedRun}
+use Rattle.claims.specs.Found.{begin}
+use Rattle.claims.specs.FoundRun.{answersFrom, foundRun}
 use Rattle.claims.specs.SerialOrder.{Explained, ReportedAt, appliedOn, book, madeOfZero, op, updates}
 use Rattle.claims.specs.Steps.{Decoded, RawStep, bad, decode, good}
 use Rattle.claims.specs.Ledger as L
-use Rattle.registers.specs.Layer as R
 
 module _ (P : Placement) (ok : placementRefusal P ≡ 0) where
   abbrev Reports : ℕ → Action unvalued → Type 0
@@ -163,34 +159,12 @@ module _ (P : Placement) (ok : placementRefusal P ≡ 0) where
       reports : Any (IsReport P ok k) run
       reports = at-any (suf-now {e = Action.report (r .task) k (it-tells .0)} longer-with refl)
 
-      -- the operation reported is the same at the end
-      op-kept : opAt ((ledger P cs) .ops) k ≡ op P steps k
-      op-kept = op-same P ok ops chosen b (trace P cs) hold Z (ended-requested P ok ops chosen b (trace P cs) hold Z enabled) ∙ ap (λ l. opAt l k) same-ops
-        where
-          b : Ledger numbers
-          b = ledger P cs
-
-          ops : List Op
-          ops = last .ops
-
-          chosen : ℕ → Option ℕ
-          chosen = last .chosen
-
-          enabled : b .layer .status (r .task) ≡ R.done k (it-tells .0)
-          enabled = execution-suf P longer-with (executes numbers P ok steps) .0
-
-          hold : Holds b ops chosen
-          hold = holds-suf P ops chosen (suf-trans (back stop) longer-with) (record { ops= = λ k l. refl; chosen= = λ k i e. e })
-
-          Z : Sim P ok ops chosen b (trace P cs)
-          Z = sim P ok ops chosen cs (executes numbers P ok (r .before)) hold
-
     -- ---- the theorem
 
     explained : (order : List ℕ) × Demand3 P ok run order
     explained = demand3 P ok run (executes numbers P ok steps)
 
-    pub demand-3 : Explained P steps (publishedRun P steps .1) ((publishedRun P steps .0) .table)
+    pub demand-3 : Explained P steps (foundRun P steps .1) ((foundRun P steps .0) .table)
     demand-3 = (
       r .0,
       record {
@@ -199,7 +173,7 @@ module _ (P : Placement) (ok : placementRefusal P ≡ 0) where
         applied = λ k i h. r .1 .updates k i (subst (λ b. In k (b .layer .applied i)) forgotten h);
         once = r .1 .once;
         tasks = λ j k x y t l. r .1 .tasks j k x y (subst (λ ops. (opAt ops j) .task ≡ (opAt ops k) .task) (sym same-ops) t) l;
-        reads = reading;
+        gives = giving;
         copies = λ x i c. let z = r .1 .copies x i c in
             (z .0, ap (λ ops. ofRegister ops x (r .0)) (sym same-ops) ∙ z .1 ∙ ap (λ l. l ++ z .0) (applied-alike i x));
         copy-values = λ x i c. ap (λ p. p .table i x) (together P ok steps) ∙ r .1 .copy-values x i c
@@ -226,11 +200,11 @@ module _ (P : Placement) (ok : placementRefusal P ≡ 0) where
         made : ℕ → List ℕ → List Op → ℕ
         made k pre ops = make (λ j. updated ((opAt ops j) .fn) ((opAt ops j) .arg)) 0 (ofRegister ops ((opAt ops k) .reg) pre)
 
-        reading : (k n : ℕ) → ReportedAt P steps k n → (op P steps k) .upd ≡ false → (pre post : List ℕ) → r .0 ≡ pre ++ k ∷ post
-            → nth (publishedRun P steps .1) n ≡ some (record { result = 0; value = madeOfZero P steps (filter (updates P steps ((op P steps k) .reg)) pre) })
-        reading k n h u pre post e =
+        giving : (k n : ℕ) → ReportedAt P steps k n → (pre post : List ℕ) → r .0 ≡ pre ++ k ∷ post
+            → nth (foundRun P steps .1) n ≡ some (record { result = 0; value = madeOfZero P steps (filter (updates P steps ((op P steps k) .reg)) pre) })
+        giving k n h pre post e =
             ap (λ l. nth (answersFrom P begin l) n) (h .whole)
             ∙ ap (nth (answersFrom P begin (h .before ++ h .it ∷ h .after))) (sym (h .place=))
             ∙ answer-at P ok (h .before) (h .it) (h .after)
-            ∙ ap some (answer-is P ok (paper P (h .before)) (executes numbers P ok (h .before)) (decode P (h .it)) (h .task) k (it-tells k n h .0) (it-tells k n h .1) (ap (λ o. o .upd) (op-kept k n h) ∙ u))
+            ∙ ap some (answer-is P ok (paper P (h .before)) (executes numbers P ok (h .before)) (decode P (h .it)) (h .task) k (it-tells k n h .0) (it-tells k n h .1))
             ∙ ap (λ v. some (record { result = 0; value = v })) (r .1 .tells k (it-tells k n h .0) (tells k n h) pre post e ∙ ap (made k pre) same-ops)

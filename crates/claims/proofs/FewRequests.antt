@@ -5,21 +5,24 @@ use lib.ListN.{length}
 use mathlib.Core.Bool.{Bool, cond, false, true}
 use mathlib.Core.List.{List, [], _∷_}
 use mathlib.Core.Logic.{inl, inr, _⊎_}
-use mathlib.Core.Path.{ap, refl, _∙_, _≡_}
+use mathlib.Core.Path.{ap, refl, sym, _∙_, _≡_}
 use native.Mathlib.Omega.{arith}
 use Rattle.lists.specs.Histories.{In, here, there}
 use Rattle.names.proofs.Results.{not-zero-refused}
 use Rattle.names.specs.Placement.{Placement, home}
-use Rattle.names.specs.declared.Body.{Body}
-use Rattle.names.specs.declared.Body.the-variants.{ReadDo, ReadReply, UpdateDo, UpdateReply}
+use Rattle.claims.proofs.ForgetFound.{commutes, result-same}
 use Rattle.claims.proofs.RefusalExact.{misformed-small, refusal-exact}
 use Rattle.claims.proofs.Results.{refused-number}
 use Rattle.claims.specs.Command.{Command}
+use Rattle.claims.specs.ForgetFound.{forget}
+use Rattle.claims.specs.Found.{Found}
+use Rattle.claims.specs.Messages.{Body, ReadDo, ReadReply, UpdateDo, UpdateReply}
 use Rattle.claims.specs.Numbers.{Comes, Misformed, alone-here, busy-read, busy-update, copy-here, crowded, far-behind, held-full, inbox-full-single, inbox-full-take, last-broadcast, last-read, last-update, no-broadcast, no-copy, no-holder, no-letter, no-message, nobody, none-in-flight, not-alone, not-asking, not-done, not-read, not-update, outbox-full-read, outbox-full-reply, outbox-full-update, second-in-flight}
 use Rattle.claims.specs.Published.{Doing, Letter, Published, askingRead, askingUpdate, commandRefusal, delivering, dispatching, doneRead, doneUpdate, effect, performing, quiet, receiving, sendingRead, sendingUpdate, waiting}
-use Rattle.claims.specs.PublishedRun.{Answer, afterDecoded, answerDecoded, answersFrom}
+use Rattle.claims.specs.PublishedRun.{Answer, afterDecoded, answerDecoded}
 use Rattle.claims.specs.Steps.{Decoded, RawStep, bad, decode, good}
 use Rattle.claims.specs.Command as K
+use Rattle.claims.specs.FoundRun as R
 
 module _ (P : Placement) where
   module _ (s : Published) where
@@ -118,7 +121,9 @@ module _ (P : Placement) where
         go (inl m) = let r = misformed-small P a m in absurd (omega arith)
         go (inr (c, d, x)) = comes-23 x refl
 
-  -- from a state on, while requests taken and steps to come are 65,535 at most
-  pub never-23 : (s : Published) (l : List RawStep) → s .requests + length l ≤ 65535 → (r : Answer) → In r (answersFrom P s l) → ¬ (r .result ≡ 23)
-  never-23 s (a ∷ l) h r (here p) e = let z = all-taken s a (ap (λ x. x .result) p ∙ e) in omega arith
-  never-23 s (a ∷ l) h r (there q) e = never-23 (afterDecoded P s (decode P a)) l (let z = one-more s (decode P a) in omega arith) r q e
+  -- from a state of the algorithm that the store runs on, while requests taken and steps to come are 65,535 at most
+  pub never-23 : (s : Found) (l : List RawStep) → s .requests + length l ≤ 65535 → (r : Answer) → In r (R.answersFrom P s l) → ¬ (r .result ≡ 23)
+  never-23 s (a ∷ l) h r (here p) e = let z = all-taken (forget s) a (sym (result-same P s (decode P a)) ∙ ap (λ x. x .result) p ∙ e) in omega arith
+  never-23 s (a ∷ l) h r (there q) e =
+      never-23 (R.afterDecoded P s (decode P a)) l
+      (let z = one-more (forget s) (decode P a) in let y = ap (λ u. u .requests) (commutes P .after s (decode P a)) in omega arith) r q e

@@ -14,7 +14,7 @@ use Rattle.names.specs.CardSet.{memberOf}
 use Rattle.names.specs.Placement.{Placement, placementRefusal}
 use Rattle.claims.proofs.Demand.{IsReport}
 use Rattle.claims.proofs.Taken.{paper-append, paper-suf}
-use Rattle.claims.specs.Fields.{Field, Needed, Says, applied, copies, copy-values, once, only, reads, reported, tasks}
+use Rattle.claims.specs.Fields.{Field, Needed, Says, applied, copies, copy-values, gives, once, only, reported, tasks}
 use Rattle.claims.specs.Ledger.{paperFrom}
 use Rattle.claims.specs.Paper.{Action, paper, report}
 use Rattle.claims.specs.PublishedRun.{Answer}
@@ -32,7 +32,7 @@ module _ (P : Placement) (steps : List RawStep) (answers : List Answer) (table :
       applied = h applied;
       once = h once;
       tasks = h tasks;
-      reads = h reads;
+      gives = h gives;
       copies = h copies;
       copy-values = h copy-values;
     },
@@ -44,7 +44,7 @@ module _ (P : Placement) (steps : List RawStep) (answers : List Answer) (table :
       say X applied = X .applied
       say X once = X .once
       say X tasks = X .tasks
-      say X reads = X .reads
+      say X gives = X .gives
       say X copies = X .copies
       say X copy-values = X .copy-values
 

@@ -17,10 +17,11 @@ use Rattle.names.specs.Placement.{copy}
 use Rattle.names.specs.Update.{knownFunction, largerOf, raised, sumOf, updated}
 use Rattle.claims.proofs.Fields.{just, one-copy, reported-listed, reportsOf}
 use Rattle.claims.proofs.NamedRuns.{tiny-accepted}
-use Rattle.claims.specs.Fields.{Field, Needed, Says, applied, copies, copy-values, once, only, reads, reported, tasks}
+use Rattle.claims.specs.Fields.{Field, Needed, Says, applied, copies, copy-values, gives, once, only, reported, tasks}
+use Rattle.claims.specs.FoundRun.{foundRun}
 use Rattle.claims.specs.NamedRuns.{step, tiny}
 use Rattle.claims.specs.Paper.{paper}
-use Rattle.claims.specs.PublishedRun.{Answer, publishedRun}
+use Rattle.claims.specs.PublishedRun.{Answer}
 use Rattle.claims.specs.SerialOrder.{ReportedAt, SerialOrder, appliedOn, madeOfZero, op, updates}
 use Rattle.claims.specs.Steps.{RawStep, cardThere, commandOf, decode, functionThere, known, namesCard, namesChosen, namesFunction, namesRegister, namesTask, operand, registerThere, taskThere, unnamedZero}
 
@@ -30,10 +31,10 @@ add5 = record { code = 2; argument = 0 ∷ 0 ∷ 2 ∷ 0 ∷ 5 ∷ 0 ∷ 0 ∷ 0
 
 -- what the store answers, and its table
 abbrev answers : List RawStep → List Answer
-answers l = publishedRun tiny l .1
+answers l = foundRun tiny l .1
 
 abbrev table : List RawStep → ℕ → ℕ → ℕ
-table l = publishedRun tiny l .0 .table
+table l = foundRun tiny l .0 .table
 
 -- ---- only: an update that is requested and no more is no part of the order
 
@@ -81,7 +82,7 @@ only-needed = record {
     others applied d = λ k i h. absurd (any-nil (subst (In k) (asked-applies i) h))
     others once d = ((λ h. any-nil h), tt)
     others tasks d = λ j k x y t l. let a = just x in let b = just y in absurd (omega arith)
-    others reads d = λ k n r. absurd (none r)
+    others gives d = λ k n r. absurd (none r)
     others copies d = one-copy (λ x i. (rest : List ℕ) × (filter (updates tiny asked x) (0 ∷ []) ≡ filter (updates tiny asked x) (appliedOn tiny asked i) ++ rest)) (0 ∷ [], asked-shows)
     others copy-values d = one-copy (λ x i. table asked i x ≡ madeOfZero tiny asked (filter (updates tiny asked x) (appliedOn tiny asked i))) asked-value
 
@@ -123,7 +124,7 @@ reported-needed = record {
     others applied d = λ k i h. absurd (any-nil (subst (In k) (looked-applies i) h))
     others once d = tt
     others tasks d = λ j k x. absurd (any-nil x)
-    others reads d = λ k n r u pre post e. absurd (empty k pre post e)
+    others gives d = λ k n r pre post e. absurd (empty k pre post e)
     others copies d = λ x i c. ([], sym (ap (λ l. filter (updates tiny looked x) l ++ []) (looked-applies i)))
     others copy-values d = one-copy (λ x i. table looked i x ≡ madeOfZero tiny looked (filter (updates tiny looked x) (appliedOn tiny looked i))) looked-value
 
@@ -199,7 +200,7 @@ once-needed = record {
     others applied d = λ k i h. here (performed-only k i h)
     others once d = absurd (d refl)
     others tasks d = λ j k x y t l. let a = zero x in let b = zero y in absurd (omega arith)
-    others reads d = λ k n r. absurd (performed-none r)
+    others gives d = λ k n r. absurd (performed-none r)
     others copies d = one-copy (λ x i. (rest : List ℕ) × (filter (updates tiny performed x) (0 ∷ 0 ∷ []) ≡ filter (updates tiny performed x) (appliedOn tiny performed i) ++ rest)) (0 ∷ [], performed-twice)
     others copy-values d = one-copy (λ x i. table performed i x ≡ madeOfZero tiny performed (filter (updates tiny performed x) (appliedOn tiny performed i))) performed-value
 
@@ -222,7 +223,7 @@ copy-values-needed = record {
     others applied d = λ k i h. here (performed-only k i h)
     others once d = ((λ h. any-nil h), tt)
     others tasks d = λ j k x y t l. let a = just x in let b = just y in absurd (omega arith)
-    others reads d = λ k n r. absurd (performed-none r)
+    others gives d = λ k n r. absurd (performed-none r)
     others copies d = one-copy (λ x i. (rest : List ℕ) × (filter (updates tiny performed x) (0 ∷ []) ≡ filter (updates tiny performed x) (appliedOn tiny performed i) ++ rest)) ([], performed-shows)
     others copy-values d = absurd (d refl)
 

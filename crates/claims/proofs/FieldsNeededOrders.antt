@@ -1,8 +1,8 @@
--- SerialOrder's fields `tasks`, `reads` and `copies` on small histories: K2 with a forgetful answer, and two tasks that set one register.
+-- SerialOrder's fields `tasks`, `gives` and `copies` on small histories: K2 with a forgetful answer, and two tasks that set one register.
 use Prim.Native.Nat.{ℕ, _<_}
 use lib.Dec.{eqb}
 use lib.ListN.{drop, getD}
-use mathlib.Core.Bool.{false, true}
+use mathlib.Core.Bool.{true}
 use mathlib.Core.List.{List, [], _++_, _∷_}
 use mathlib.Core.Logic.{inl, inr, _⊎_}
 use mathlib.Core.Option.{Option, none, some}
@@ -14,19 +14,19 @@ use Rattle.lists.specs.Histories.{In, any-nil, any-right, here, there}
 use Rattle.lists.specs.Loops.{total, turns}
 use Rattle.lists.specs.Places.{nth}
 use Rattle.lists.specs.Queues.{push, push-cases}
-use Rattle.lists.specs.Tests.{clash}
 use Rattle.names.specs.CardSet.{justOf, memberOf, several, single, sizeOf, soleOf}
 use Rattle.names.specs.Placement.{Placement, copy, homePlaced, homesPlaced, placed, placementRefusal, registerPlaced, registersPlaced, sized, sizesInRange}
 use Rattle.names.specs.Update.{knownFunction, largerOf, raised, sumOf, updated}
 use Rattle.claims.proofs.Fields.{just, one-copy, one-of-two, reported-listed, reportsOf}
 use Rattle.claims.proofs.FieldsNeeded.{copy-values-needed, once-needed, only-needed, reported-needed}
-use Rattle.claims.proofs.ForcedAnswer.{reads-zero, reported-0, reported-1}
+use Rattle.claims.proofs.ForcedAnswer.{reported-0, reported-1}
 use Rattle.claims.proofs.NamedRuns.{tiny-accepted}
 use Rattle.claims.proofs.Reports.{reports-exact}
-use Rattle.claims.specs.Fields.{Field, Needed, Says, applied, copies, copy-values, once, only, reads, reported, tasks}
+use Rattle.claims.specs.Fields.{Field, Needed, Says, applied, copies, copy-values, gives, once, only, reported, tasks}
+use Rattle.claims.specs.FoundRun.{foundRun}
 use Rattle.claims.specs.NamedRuns.{k2, set, step, tiny}
 use Rattle.claims.specs.Paper.{paper}
-use Rattle.claims.specs.PublishedRun.{Answer, publishedRun}
+use Rattle.claims.specs.PublishedRun.{Answer}
 use Rattle.claims.specs.SerialOrder.{ReportedAt, appliedOn, madeOfZero, op, updates}
 use Rattle.claims.specs.Steps.{RawStep, cardThere, commandOf, decode, functionThere, known, namesCard, namesChosen, namesFunction, namesRegister, namesTask, operand, registerThere, taskThere, unnamedZero}
 
@@ -39,7 +39,7 @@ abbrev forgetful : List Answer
 forgetful = nought ∷ nought ∷ nought ∷ nought ∷ nought ∷ nought ∷ []
 
 abbrev k2-table : ℕ → ℕ → ℕ
-k2-table = publishedRun tiny k2 .0 .table
+k2-table = foundRun tiny k2 .0 .table
 
 k2-tells : reportsOf (paper tiny k2) ≡ 1 ∷ 0 ∷ []
 unfolding decode known unnamedZero taskThere registerThere cardThere functionThere knownFunction namesTask namesCard namesRegister namesChosen namesFunction operand commandOf each memberOf several single sizeOf soleOf justOf total turns updated raised largerOf sumOf
@@ -48,10 +48,6 @@ k2-tells = refl
 k2-applies : (i : ℕ) → appliedOn tiny k2 i ≡ push (eqb i 0) 0 []
 unfolding decode known unnamedZero taskThere registerThere cardThere functionThere knownFunction namesTask namesCard namesRegister namesChosen namesFunction operand commandOf each memberOf several single sizeOf soleOf justOf total turns updated raised largerOf sumOf
 k2-applies i = refl
-
-k2-update : (op tiny k2 0) .upd ≡ true
-unfolding decode known unnamedZero taskThere registerThere cardThere functionThere knownFunction namesTask namesCard namesRegister namesChosen namesFunction operand commandOf each memberOf several single sizeOf soleOf justOf total turns updated raised largerOf sumOf
-k2-update = refl
 
 k2-shows : (filter (updates tiny k2 0) (1 ∷ 0 ∷ []) ≡ filter (updates tiny k2 0) (appliedOn tiny k2 0) ++ [])
     × (filter (updates tiny k2 0) (0 ∷ 1 ∷ []) ≡ filter (updates tiny k2 0) (appliedOn tiny k2 0) ++ [])
@@ -66,25 +62,25 @@ one-task : (op tiny k2 0) .task ≡ (op tiny k2 1) .task
 unfolding decode known unnamedZero taskThere registerThere cardThere functionThere knownFunction namesTask namesCard namesRegister namesChosen namesFunction operand commandOf each memberOf several single sizeOf soleOf justOf total turns updated raised largerOf sumOf
 one-task = refl
 
--- the read gave what the updates of a list make of zero
+-- an operation gave what the updates of a list make of zero
 abbrev Gave : ℕ → ℕ → List ℕ → Type 0
 Gave k n l = nth forgetful n ≡ some (record { result = 0; value = madeOfZero tiny k2 (filter (updates tiny k2 ((op tiny k2 k) .reg)) l) })
 
-gave-nothing : Gave 1 5 []
+gave-nothing : Gave 1 5 [] × Gave 0 2 (1 ∷ [])
 unfolding decode known unnamedZero taskThere registerThere cardThere functionThere knownFunction namesTask namesCard namesRegister namesChosen namesFunction operand commandOf each memberOf several single sizeOf soleOf justOf total turns updated raised largerOf sumOf
-gave-nothing = refl
+gave-nothing = (refl, refl)
 
 five : madeOfZero tiny k2 (filter (updates tiny k2 ((op tiny k2 1) .reg)) (0 ∷ [])) ≡ 5
 unfolding decode known unnamedZero taskThere registerThere cardThere functionThere knownFunction namesTask namesCard namesRegister namesChosen namesFunction operand commandOf each memberOf several single sizeOf soleOf justOf total turns updated raised largerOf sumOf
 five = refl
 
--- operation 1 is reported at step 5, and else only operation 0
-k2-reports : (k n : ℕ) → ReportedAt tiny k2 k n → ((k ≡ 1) × (n ≡ 5)) ⊎ (k ≡ 0)
+-- operation 1 is reported at step 5, operation 0 at step 2
+k2-reports : (k n : ℕ) → ReportedAt tiny k2 k n → ((k ≡ 1) × (n ≡ 5)) ⊎ ((k ≡ 0) × (n ≡ 2))
 k2-reports k n r = go (one-of-two (subst (In k) k2-tells (reported-listed tiny tiny-accepted r)))
   where
-    go : (1 ≡ k) ⊎ (0 ≡ k) → ((k ≡ 1) × (n ≡ 5)) ⊎ (k ≡ 0)
+    go : (1 ≡ k) ⊎ (0 ≡ k) → ((k ≡ 1) × (n ≡ 5)) ⊎ ((k ≡ 0) × (n ≡ 2))
     go (inl e) = inl (sym e, reports-exact tiny tiny-accepted k2 .at-one-step k n 5 r (subst (λ j. ReportedAt tiny k2 j 5) e reported-1))
-    go (inr e) = inr (sym e)
+    go (inr e) = inr (sym e, reports-exact tiny tiny-accepted k2 .at-one-step k n 2 r (subst (λ j. ReportedAt tiny k2 j 2) e reported-0))
 
 k2-applied : (k i : ℕ) → In k (appliedOn tiny k2 i) → 0 ≡ k
 k2-applied k i h = go (push-cases (eqb i 0) [] (subst (In k) (k2-applies i) h))
@@ -106,6 +102,12 @@ in-front : (pre post : List ℕ) → 1 ∷ 0 ∷ [] ≡ pre ++ 1 ∷ post → pr
 in-front [] post e = refl
 in-front (a ∷ pre) post e = let z = just (subst (In 1) (sym (ap (drop 1) e)) (any-right pre (here refl))) in absurd (omega arith)
 
+-- and in front of operation 0 only operation 1
+in-front-0 : (pre post : List ℕ) → 1 ∷ 0 ∷ [] ≡ pre ++ 0 ∷ post → pre ≡ 1 ∷ []
+in-front-0 [] post e = let z = ap (λ l. getD l 0 0) e in absurd (omega arith)
+in-front-0 (a ∷ []) post e = ap (λ x. x ∷ []) (sym (ap (λ l. getD l 0 0) e))
+in-front-0 (a ∷ b ∷ pre) post e = absurd (any-nil (subst (In 0) (sym (ap (drop 2) e)) (any-right pre (here refl))))
+
 -- tasks: a task's read stands behind its own update; in the other order the forgetful answer would do
 pub tasks-needed : Needed tasks
 tasks-needed = record {
@@ -122,10 +124,11 @@ tasks-needed = record {
     behind : Precedes {A = ℕ} 0 1 (1 ∷ 0 ∷ []) → ⊥
     behind (pre, post, e, h) = any-nil (subst (In 0) (in-front pre post e) h)
 
-    reading : (k n : ℕ) → ((k ≡ 1) × (n ≡ 5)) ⊎ (k ≡ 0) → (op tiny k2 k) .upd ≡ false → (pre post : List ℕ) → 1 ∷ 0 ∷ [] ≡ pre ++ k ∷ post → Gave k n pre
-    reading k n (inl (a, b)) u pre post e =
-        subst (λ j. Gave j n pre) (sym a) (subst (λ m. Gave 1 m pre) (sym b) (subst (Gave 1 5) (sym (in-front pre post (subst (λ j. 1 ∷ 0 ∷ [] ≡ pre ++ j ∷ post) a e))) gave-nothing))
-    reading k n (inr a) u pre post e = absurd (clash (ap (λ j. (op tiny k2 j) .upd) a ∙ k2-update) u)
+    giving : (k n : ℕ) → ((k ≡ 1) × (n ≡ 5)) ⊎ ((k ≡ 0) × (n ≡ 2)) → (pre post : List ℕ) → 1 ∷ 0 ∷ [] ≡ pre ++ k ∷ post → Gave k n pre
+    giving k n (inl (a, b)) pre post e =
+        subst (λ j. Gave j n pre) (sym a) (subst (λ m. Gave 1 m pre) (sym b) (subst (Gave 1 5) (sym (in-front pre post (subst (λ j. 1 ∷ 0 ∷ [] ≡ pre ++ j ∷ post) a e))) (gave-nothing .0)))
+    giving k n (inr (a, b)) pre post e =
+        subst (λ j. Gave j n pre) (sym a) (subst (λ m. Gave 0 m pre) (sym b) (subst (Gave 0 2) (sym (in-front-0 pre post (subst (λ j. 1 ∷ 0 ∷ [] ≡ pre ++ j ∷ post) a e))) (gave-nothing .1)))
 
     others : (g : Field) → ¬ (g ≡ tasks) → Says tiny k2 forgetful k2-table (1 ∷ 0 ∷ []) g
     others only d = λ k h. k2-there (other-way (one-of-two h))
@@ -133,13 +136,13 @@ tasks-needed = record {
     others applied d = λ k i h. there (here (k2-applied k i h))
     others once d = ((λ h. let z = just h in omega arith), ((λ h. any-nil h), tt))
     others tasks d = absurd (d refl)
-    others reads d = λ k n r. reading k n (k2-reports k n r)
+    others gives d = λ k n r. giving k n (k2-reports k n r)
     others copies d = one-copy (λ x i. (rest : List ℕ) × (filter (updates tiny k2 x) (1 ∷ 0 ∷ []) ≡ filter (updates tiny k2 x) (appliedOn tiny k2 i) ++ rest)) ([], k2-shows .0)
     others copy-values d = one-copy (λ x i. k2-table i x ≡ madeOfZero tiny k2 (filter (updates tiny k2 x) (appliedOn tiny k2 i))) k2-value
 
--- reads: behind its task's update the read gives 5
-pub reads-needed : Needed reads
-reads-needed = record {
+-- gives: behind its task's update the read gives 5
+pub gives-needed : Needed gives
+gives-needed = record {
   P = tiny;
   accepted = tiny-accepted;
   steps = k2;
@@ -147,7 +150,7 @@ reads-needed = record {
   table = k2-table;
   order = 0 ∷ 1 ∷ [];
   others = others;
-  refused = λ h. forgot (h 1 5 reported-1 (reads-zero .0) (0 ∷ []) [] refl);
+  refused = λ h. forgot (h 1 5 reported-1 (0 ∷ []) [] refl);
 }
   where
     valueIn : Option Answer → ℕ
@@ -167,13 +170,13 @@ reads-needed = record {
     swapped (here p) = there (here p)
     swapped (there h) = here (just h)
 
-    others : (g : Field) → ¬ (g ≡ reads) → Says tiny k2 forgetful k2-table (0 ∷ 1 ∷ []) g
+    others : (g : Field) → ¬ (g ≡ gives) → Says tiny k2 forgetful k2-table (0 ∷ 1 ∷ []) g
     others only d = λ k h. k2-there (one-of-two h)
     others reported d = λ k n r. swapped (subst (In k) k2-tells (reported-listed tiny tiny-accepted r))
     others applied d = λ k i h. here (k2-applied k i h)
     others once d = ((λ h. let z = just h in omega arith), ((λ h. any-nil h), tt))
     others tasks d = λ j k x y t l. in-turn j k (one-of-two x) (one-of-two y) l
-    others reads d = absurd (d refl)
+    others gives d = absurd (d refl)
     others copies d = one-copy (λ x i. (rest : List ℕ) × (filter (updates tiny k2 x) (0 ∷ 1 ∷ []) ≡ filter (updates tiny k2 x) (appliedOn tiny k2 i) ++ rest)) ([], k2-shows .1)
     others copy-values d = one-copy (λ x i. k2-table i x ≡ madeOfZero tiny k2 (filter (updates tiny k2 x) (appliedOn tiny k2 i))) k2-value
 
@@ -190,7 +193,7 @@ abbrev two : List RawStep
 two = set 0 0 1 ∷ step 3 (0 ∷ []) ∷ set 1 0 2 ∷ step 3 (1 ∷ []) ∷ []
 
 abbrev two-table : ℕ → ℕ → ℕ
-two-table = publishedRun pair two .0 .table
+two-table = foundRun pair two .0 .table
 
 two-tells : reportsOf (paper pair two) ≡ []
 unfolding decode known unnamedZero taskThere registerThere cardThere functionThere knownFunction namesTask namesCard namesRegister namesChosen namesFunction operand commandOf each memberOf several single sizeOf soleOf justOf total turns updated raised largerOf sumOf
@@ -221,7 +224,7 @@ copies-needed = record {
   P = pair;
   accepted = pair-accepted;
   steps = two;
-  answers = publishedRun pair two .1;
+  answers = foundRun pair two .1;
   table = two-table;
   order = 1 ∷ 0 ∷ [];
   others = others;
@@ -257,13 +260,13 @@ copies-needed = record {
         omega arith
     two-tasks j k (inr a) (inr b) t l = omega arith
 
-    others : (g : Field) → ¬ (g ≡ copies) → Says pair two (publishedRun pair two .1) two-table (1 ∷ 0 ∷ []) g
+    others : (g : Field) → ¬ (g ≡ copies) → Says pair two (foundRun pair two .1) two-table (1 ∷ 0 ∷ []) g
     others only d = λ k h. by (one-of-two h)
     others reported d = λ k n r. absurd (none k n r)
     others applied d = held
     others once d = ((λ h. let z = just h in omega arith), ((λ h. any-nil h), tt))
     others tasks d = λ j k x y t l. absurd (two-tasks j k (one-of-two x) (one-of-two y) t l)
-    others reads d = λ k n r. absurd (none k n r)
+    others gives d = λ k n r. absurd (none k n r)
     others copies d = absurd (d refl)
     others copy-values d = one-copy (λ x i. two-table i x ≡ madeOfZero pair two (filter (updates pair two x) (appliedOn pair two i))) two-value
 
@@ -275,6 +278,6 @@ each-needed reported d = reported-needed
 each-needed applied d = absurd (d refl)
 each-needed once d = once-needed
 each-needed tasks d = tasks-needed
-each-needed reads d = reads-needed
+each-needed gives d = gives-needed
 each-needed copies d = copies-needed
 each-needed copy-values d = copy-values-needed

@@ -1,4 +1,4 @@
--- The published run answers each step with the ledger's result.
+-- The run of the algorithm that the store runs answers each step with the ledger's result.
 use Prim.Native.Nat.{suc, zero, ℕ}
 use lib.ListN.{drop, length, take}
 use mathlib.Core.List.{List, [], _++_, _∷_}
@@ -7,7 +7,7 @@ use mathlib.Core.Path.{ap, ap₂, refl, sym, _∙_, _≡_}
 use Rattle.lists.specs.Places.{nth}
 use Rattle.names.specs.Placement.{Placement, placementRefusal}
 use Rattle.claims.proofs.Together.{results-agree}
-use Rattle.claims.specs.PublishedRun.{publishedRun}
+use Rattle.claims.specs.FoundRun.{foundRun}
 use Rattle.claims.specs.Reports.{LedgerNumbers}
 use Rattle.claims.specs.Steps.{RawStep}
 
@@ -17,8 +17,8 @@ split-at [] n a e = absurd (Option·none-ne-some a e)
 split-at (b ∷ l) zero a e = (ap (λ x. x ∷ l) (Option·some-injective b a e), refl)
 split-at (b ∷ l) (suc n) a e = let r = split-at l n a e in (ap (λ x. b ∷ x) (r .0), ap suc (r .1))
 
-pub ledger-numbers : (P : Placement) → placementRefusal P ≡ 0 → (steps : List RawStep) → LedgerNumbers P steps (publishedRun P steps .1)
+pub ledger-numbers : (P : Placement) → placementRefusal P ≡ 0 → (steps : List RawStep) → LedgerNumbers P steps (foundRun P steps .1)
 ledger-numbers P ok steps n a e =
     let s = split-at steps n a e in
     let r = results-agree P ok (take n steps) a (drop (suc n) steps) in
-    (r .0, ap₂ (λ l k. nth (publishedRun P l .1) k) (s .0) (sym (s .1)) ∙ r .1)
+    (r .0, ap₂ (λ l k. nth (foundRun P l .1) k) (s .0) (sym (s .1)) ∙ r .1)

@@ -22,10 +22,10 @@ use Rattle.names.specs.CardSet.{memberOf, several, soleOf}
 use Rattle.names.specs.Placement.{Placement, copy, home, placementRefusal, tasks}
 use Rattle.registers.specs.Layer.{Msg, unvalued}
 use Rattle.claims.proofs.CardSets.{held-somewhere, some-card, tasks-low}
-use Rattle.claims.proofs.ChannelEffects.{does-single, does-take}
 use Rattle.claims.proofs.ChannelLimits.{Free, Modest, modest-single, modest-take}
 use Rattle.claims.proofs.Current.{asked-current, holds-now}
 use Rattle.claims.proofs.Executions.{Execution}
+use Rattle.claims.proofs.ForgetFound.{commutes, result-same}
 use Rattle.claims.proofs.NumbersMean.{not-crowded}
 use Rattle.claims.proofs.OnTheWay.{broadcasts-few, flight-free, flight-task, held-short, taken-few}
 use Rattle.claims.proofs.Range.{Small, small}
@@ -36,7 +36,7 @@ use Rattle.claims.proofs.Forgetting.{book-forget, forget, forget-alike,
 use Rattle.claims.proofs.Shown.{alike, answered-alike, numbers, same-result, showMsg, shown}
 use Rattle.claims.proofs.Steady.{Steady, steady}
 use Rattle.claims.proofs.Taken.{executes}
-use Rattle.claims.proofs.Together.{together}
+use Rattle.claims.proofs.TogetherPublished.{does-single, does-take, together}
 use Rattle.claims.specs.Command.{Command}
 use Rattle.claims.specs.Ledger.{Action, decodedNumber, ledger, ledgerMail, numberOf, paper, setsOf, sightOf, wide, world}
 use Rattle.claims.specs.Limits.{WithinLimits}
@@ -44,6 +44,8 @@ use Rattle.claims.specs.Numbers.{Comes, Misformed, alone-here, busy-read
 use Rattle.claims.specs.Published.{Letter, Published, answered, begin, mail, sight}
 use Rattle.claims.specs.PublishedRun.{answerDecoded, finalFrom, refusalOf}
 use Rattle.claims.specs.Steps.{Decoded, RawStep, bad, decode, good}
+use Rattle.claims.specs.Found as F
+use Rattle.claims.specs.FoundRun as R
 
 module _ (P : Placement) (ok : placementRefusal P ≡ 0) where
   -- ---- no outcome is 6
@@ -174,6 +176,11 @@ module _ (P : Placement) (ok : placementRefusal P ≡ 0) where
         go : Misformed P a 6 ⊎ ((c : Command) × (decode P a ≡ good c) × Comes P (shown P ds) 6 c) → ⊥
         go (inl m) = let r = misformed-small P a m in omega arith
         go (inr (c, d, x)) = no-six ds (executes numbers P ok l) (small numbers P l) steady-shown x refl
+
+    -- nor does the algorithm that the store runs answer 6
+    pub never-6-answer : (a : RawStep) → R.answerDecoded P (R.finalFrom P F.begin l) (decode P a) .result ≡ 6 → ⊥
+    never-6-answer a e = never-6 a (refused-number P (finalFrom P begin l) (decode P a) 6 (not-zero-refused 6 (omega arith) (λ z. omega arith)) .0
+        (ap (λ s. answerDecoded P s (decode P a) .result) (sym (commutes P .final F.begin l)) ∙ sym (result-same P (R.finalFrom P F.begin l) (decode P a)) ∙ e))
 
     -- and the ledger's number is never 6
     pub ledger-never-6 : (a : RawStep) → numberOf P (ledger P (paper {U = unvalued} P l)) a ≡ 6 → ⊥

@@ -76,7 +76,7 @@ module _ (P : Placement) where
     deliver-small i l [] = omega arith
     deliver-small i l (m ∷ r) = cond-small (replies m i) (outboxRoom l) 0 (room-small l) (omega arith)
 
-    refusal-small : (s : Sight M) (c : Command) → refusal P mail replies s c < 100
+    pub refusal-small : (s : Sight M) (c : Command) → refusal P mail replies s c < 100
     refusal-small s (K.request-read c x) = request-small (s .requests) (s .stage c)
     refusal-small s (K.request-update c x f w) = request-small (s .requests) (s .stage c)
     refusal-small s (K.perform c) = perform-small (home P c) (s .stage c)

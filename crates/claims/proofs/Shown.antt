@@ -15,7 +15,6 @@ use Rattle.lists.specs.Tests.{eqb-refl}
 use Rattle.names.specs.CardSet.{justOf, memberOf, several, soleOf}
 use Rattle.names.specs.Placement.{Placement, copy, holders, home, placementRefusal, primary}
 use Rattle.names.specs.Update.{updated}
-use Rattle.names.specs.declared.Body.the-variants.{ReadDo, ReadReply, UpdateDo, UpdateReply}
 use Rattle.registers.specs.Layer.{Values, Msg, State, Status, ask, reply, to}
 use Rattle.names.proofs.CardSets.{not-several}
 use Rattle.claims.proofs.CardSets.{cards-low, home-low, just-member, just-single, just-sole}
@@ -26,6 +25,7 @@ use Rattle.claims.proofs.Renaming.{refusal-map, result-map, sight-map}
 use Rattle.claims.specs.Command.{Command}
 use Rattle.claims.specs.Ledger.{Action, Ledger, Op, answeredOf, decodedNumber, first, ledger, ledgerMail, ledgerRefusal, opAt, sightOf, stageOf, world}
 use Rattle.claims.specs.Holders.{inSet}
+use Rattle.claims.specs.Messages.{ReadDo, ReadReply, UpdateDo, UpdateReply}
 use Rattle.claims.specs.Published.{Doing, Letter, Published, answered, askingRead, askingUpdate, commandRefusal, doneRead, doneUpdate, mail, quiet, replies, sight, stage, waiting}
 use Rattle.claims.specs.PublishedRun.{commandResult}
 use Rattle.claims.specs.Refusals.{refusal}

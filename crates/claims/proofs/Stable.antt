@@ -1,4 +1,4 @@
--- What is on the way keeps its published form under a step: its operation and the card asked are known. So the state before a step is the
+-- What is on the way keeps the form of its letter under a step: its operation and the card asked are known. So the state before a step is the
 -- same under the names after it.
 use Prim.Native.Nat.{suc, ℕ}
 use lib.ListN.{length}
@@ -17,13 +17,14 @@ use Rattle.names.specs.Placement.{Placement, placementRefusal}
 use Rattle.registers.proofs.Messages.{outbox}
 use Rattle.registers.specs.Layer.{Msg, Status, ask, opOf, reply}
 use Rattle.claims.proofs.Executions.{Execution, Holds, holds-back, trace}
+use Rattle.claims.proofs.FoundShown.{askLetter, replyLetter, seen, showMsg, showStatus, shown}
 use Rattle.claims.proofs.Joint.{lower, net, upper}
 use Rattle.claims.proofs.LedgerRun.{Sim, asked-op, ended-requested, flows, op-same, ord, rk, same-mcast, same-sent}
 use Rattle.claims.proofs.LedgerRuns.{sim}
 use Rattle.claims.proofs.SameWorld.{Same}
-use Rattle.claims.proofs.Shown.{askLetter, numbers, replyLetter, seen, showMsg, showStatus, shown}
+use Rattle.claims.proofs.Shown.{numbers}
 use Rattle.claims.specs.Ledger.{Action, Ledger, Op, ledger, worldOf}
-use Rattle.claims.specs.Published.{askingRead, askingUpdate, doneRead, doneUpdate}
+use Rattle.claims.specs.Found.{askingRead, askingUpdate, doneRead, doneUpdate}
 use Rattle.registers.specs.Layer as R
 use Rattle.claims.specs.Ledger as L
 
@@ -70,7 +71,7 @@ module _ (P : Placement) (ok : placementRefusal P ≡ 0) (ds : List (Action numb
   stable-status c R.quiet e = refl
   stable-status c (R.asking k) e = ap (λ o. cond (o .upd) (askingUpdate (o .reg) (o .fn) (o .arg)) (askingRead (o .reg))) (asked-op P ok ops′ at′ b (trace P ds) hold S e .0)
   stable-status c (R.waiting k) e = refl
-  stable-status c (R.done k v) e = ap (λ o. cond (o .upd) doneUpdate (doneRead v)) (op-same P ok ops′ at′ b (trace P ds) hold S (ended-requested P ok ops′ at′ b (trace P ds) hold S e))
+  stable-status c (R.done k v) e = ap (λ o. cond (o .upd) (doneUpdate v) (doneRead v)) (op-same P ok ops′ at′ b (trace P ds) hold S (ended-requested P ok ops′ at′ b (trace P ds) hold S e))
 
   held-mcast : (i : ℕ) (x : Tagged (Msg numbers)) → In x (b .channel .held i) → Any (Mcasts (x .msg)) (map lower (trace P ds))
   held-mcast i x h = S .channel= .holds i (x .msg) (x .mark) (any-map (λ y e. (ap (λ z. z .msg) e, ap (λ z. z .mark) e)) h) .0 .mcast-it

@@ -14,13 +14,12 @@ use Rattle.lists.specs.Queues.{pop}
 use Rattle.names.specs.CardSet.{justOf}
 use Rattle.names.specs.Placement.{Placement, copy, holders, home, primary, registers}
 use Rattle.names.specs.Update.{updated}
-use Rattle.names.specs.declared.Body.{Body}
-use Rattle.names.specs.declared.Body.the-variants.{ReadDo, ReadReply, UpdateDo, UpdateReply}
 use Rattle.registers.specs.Layer.{to}
 use Rattle.claims.proofs.ChannelLimits.{Modest, free-taken, modest-deliver, modest-dispatch, modest-single, modest-start, modest-take}
 use Rattle.claims.proofs.Range.{Fits, decoded-fits}
 use Rattle.claims.specs.Command.{Command}
 use Rattle.claims.specs.Ledger.{asks}
+use Rattle.claims.specs.Messages.{Body, ReadDo, ReadReply, UpdateDo, UpdateReply}
 use Rattle.claims.specs.Published.{Doing, Letter, Published, answered, askingRead, askingUpdate, begin, commandRefusal, delivering, dispatching, doneRead, doneUpdate, effect, mail, performing, post, quiet, receiving, replyTo, requesting, sending, sendingRead, sendingUpdate, setCopy, setStatus, stage, waiting}
 use Rattle.claims.specs.PublishedRun.{afterDecoded, finalFrom}
 use Rattle.claims.specs.Refusals.{headRefusal, requestRefusal}

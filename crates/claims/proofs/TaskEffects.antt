@@ -1,4 +1,4 @@
--- Steps 1 to 5 and 10 do the same to the published state and to the ledger.
+-- Steps 1 to 5 and 10 do the same to the state of the algorithm that the store runs and to the ledger.
 use Prim.Native.Nat.{suc, ℕ}
 use borrow.Author.Tests.{eqb-true}
 use lib.Dec.{eqb}
@@ -22,12 +22,13 @@ use Rattle.registers.proofs.Requests.{Asked, busy-task}
 use Rattle.registers.proofs.Statuses.{Busy}
 use Rattle.registers.specs.Layer.{Msg, Status, ask, to}
 use Rattle.claims.proofs.Executions.{Execution, trace}
+use Rattle.claims.proofs.FoundShown.{askLetter, showMsg, showStatus, shown}
 use Rattle.claims.proofs.Joint.{upper}
 use Rattle.claims.proofs.LedgerRun.{asked-of, asked-op}
-use Rattle.claims.proofs.Shown.{askLetter, numbers, showMsg, showStatus, shown}
+use Rattle.claims.proofs.Shown.{numbers}
 use Rattle.claims.proofs.Stable.{S, hold, renamed}
 use Rattle.claims.specs.Ledger.{Action, Ledger, Op, first, ledger, noOp, opAt, world, worldOf}
-use Rattle.claims.specs.Published.{Doing, Letter, askingRead, askingUpdate, doneRead, doneUpdate, effect, performing, quiet, requesting, sending, waiting}
+use Rattle.claims.specs.Found.{Doing, Letter, askingRead, askingUpdate, doneRead, doneUpdate, effect, performing, quiet, requesting, sending, waiting}
 use Rattle.registers.specs.Layer as R
 use Rattle.claims.specs.Command as K
 use Rattle.claims.specs.Ledger as L
@@ -104,7 +105,7 @@ module _ (P : Placement) (ok : placementRefusal P ≡ 0) (ds : List (Action numb
       go : (t : Bool) → o .upd ≡ t → performing (shown P ds) c i (cond t (askingUpdate (o .reg) (o .fn) (o .arg)) (askingRead (o .reg))) ≡ shown P (Action.perform c k ∷ ds)
       go true u = λ j. record {
         requests = length (before .ops);
-        status = λ a. status-set (before .ops) c (o .task) doneUpdate (R.done k (T (home P (o .task)) (o .reg))) (before .layer .status) mine (ap (λ t. cond t doneUpdate (doneRead (T (home P (o .task)) (o .reg)))) u) a j;
+        status = λ a. status-set (before .ops) c (o .task) (doneUpdate (T i (o .reg))) (R.done k (T (home P (o .task)) (o .reg))) (before .layer .status) mine (ap₂ (λ t v. cond t (doneUpdate v) (doneRead v)) u found) a j;
         table = λ a x. (copy-set T (updated (o .fn) (o .arg)) i (o .reg) a x
             ∙ ap₂ (λ t n. cond (t && eqb a (home P n) && eqb (o .reg) x) (updated (o .fn) (o .arg) (T a x)) (T a x)) (sym u) (sym mine)) j;
         out = λ a. map h (before .layer .out a);
@@ -113,13 +114,13 @@ module _ (P : Placement) (ok : placementRefusal P ≡ 0) (ds : List (Action numb
       go false u = λ j. record {
         requests = length (before .ops);
         status = λ a. status-set (before .ops) c (o .task) (doneRead (T i (o .reg))) (R.done k (T (home P (o .task)) (o .reg))) (before .layer .status) mine
-            (ap₂ (λ t v. cond t doneUpdate (doneRead v)) u found) a j;
+            (ap₂ (λ t v. cond t (doneUpdate v) (doneRead v)) u found) a j;
         table = λ a x. ap (λ t. cond (t && eqb a (home P (o .task)) && eqb (o .reg) x) (updated (o .fn) (o .arg) (T a x)) (T a x)) (sym u) j;
         out = λ a. map h (before .layer .out a);
         channel = channel-map h (before .channel);
       }
 
-  -- 4, 5: the message as it is published
+  -- 4, 5: the letter of the message
   pub does-send : (c k i : ℕ) (body : Body) (to : ℕ) (f : Execution P (Action.send c k i ∷ ds))
       → cond ((opAt (before .ops) k) .upd) (UpdateDo ((opAt (before .ops) k) .fn) ((opAt (before .ops) k) .arg)) ReadDo ≡ body
       → cond ((opAt (before .ops) k) .upd) ((opAt (before .ops) k) .holders) (justOf i) ≡ to

@@ -1,5 +1,5 @@
--- The published algorithm and the two layers with values go together over any list of steps: after it the published state is theirs with the
--- operation numbers forgotten, each step is answered with the same number, and a report of a read with the value that the layer's report gives.
+-- The algorithm that the store runs and the two layers with values go together over any list of steps: after it its state is theirs with the
+-- operation numbers forgotten, each step is answered with the same number, and a report with the value that the layer's report gives.
 use Prim.Native.Nat.{suc, ℕ}
 use lib.Dec.{eqb}
 use lib.ListN.{length}
@@ -16,14 +16,15 @@ use Rattle.names.specs.Placement.{Placement, placementRefusal}
 use Rattle.names.specs.Results.{resultFrom}
 use Rattle.registers.specs.Layer.{Msg, Status, unvalued}
 use Rattle.claims.proofs.Executions.{Execution}
+use Rattle.claims.proofs.FoundShown.{same-refusal, same-result, showStatus, shown}
 use Rattle.claims.proofs.Forgetting.{number-forget}
 use Rattle.claims.proofs.SameEffect.{same-effect}
-use Rattle.claims.proofs.Shown.{numbers, same-refusal, same-result, showStatus, shown}
+use Rattle.claims.proofs.Shown.{numbers}
 use Rattle.claims.proofs.Taken.{executes, executes-notes, notes-refused, notes-taken, taken}
 use Rattle.claims.specs.Command.{Command}
 use Rattle.claims.specs.Ledger.{Action, Ledger, Op, about, decodedNumber, headed, ledger, ledgerRefusal, notes, numberOf, opAt, paper, paperFrom, plan, stageOf, telling}
-use Rattle.claims.specs.Published.{Published, begin, commandRefusal, doneRead, doneUpdate, effect, mail, post, sight}
-use Rattle.claims.specs.PublishedRun.{afterDecoded, answerDecoded, answersFrom, finalFrom, publishedRun, valueAt, valueOf}
+use Rattle.claims.specs.Found.{Found, begin, commandRefusal, doneRead, doneUpdate, effect, mail, post, sight}
+use Rattle.claims.specs.FoundRun.{afterDecoded, answerDecoded, answersFrom, finalFrom, foundRun, valueAt, valueOf}
 use Rattle.claims.specs.Refusals.{reportRefusal}
 use Rattle.claims.specs.Results.{holding}
 use Rattle.claims.specs.Steps.{Decoded, RawStep, bad, decode, good}
@@ -53,16 +54,16 @@ module _ (P : Placement) (ok : placementRefusal P ≡ 0) where
 
   -- ---- the answer at a step
 
-  nth-answers : (s : Published) (pre : List RawStep) (a : RawStep) (post : List RawStep) → nth (answersFrom P s (pre ++ a ∷ post)) (length pre) ≡ some (answerDecoded P (finalFrom P s pre) (decode P a))
+  nth-answers : (s : Found) (pre : List RawStep) (a : RawStep) (post : List RawStep) → nth (answersFrom P s (pre ++ a ∷ post)) (length pre) ≡ some (answerDecoded P (finalFrom P s pre) (decode P a))
   nth-answers s [] a post = refl
   nth-answers s (x ∷ pre) a post = nth-answers (afterDecoded P s (decode P x)) pre a post
 
-  pub answer-at : (pre : List RawStep) (a : RawStep) (post : List RawStep) → nth (publishedRun P (pre ++ a ∷ post) .1) (length pre) ≡ some (answerDecoded P (shown P (paper P pre)) (decode P a))
+  pub answer-at : (pre : List RawStep) (a : RawStep) (post : List RawStep) → nth (foundRun P (pre ++ a ∷ post) .1) (length pre) ≡ some (answerDecoded P (shown P (paper P pre)) (decode P a))
   answer-at pre a post = nth-answers begin pre a post ∙ ap (λ s. some (answerDecoded P s (decode P a))) (together pre)
 
   -- the result is the ledger's
   pub results-agree : (pre : List RawStep) (a : RawStep) (post : List RawStep)
-      → (v : ℕ) × (nth (publishedRun P (pre ++ a ∷ post) .1) (length pre) ≡ some (record { result = numberOf P (ledger P (paper {U = unvalued} P pre)) a; value = v }))
+      → (v : ℕ) × (nth (foundRun P (pre ++ a ∷ post) .1) (length pre) ≡ some (record { result = numberOf P (ledger P (paper {U = unvalued} P pre)) a; value = v }))
   results-agree pre a post = let r = go (decode P a) in (r .0, answer-at pre a post ∙ ap some (r .1 ∙ ap (λ n. record { result = n; value = r .0 }) (sym (number-forget numbers P pre (decode P a)))))
     where
       cs : List (Action numbers)
@@ -134,32 +135,32 @@ module _ (P : Placement) (ok : placementRefusal P ≡ 0) where
     other : {A : Type 0} (o : Option (Action numbers)) (t k w : ℕ) → reports o ≡ 0 → o ≡ some (Action.report t k w) → A
     other o t k w e p = let q = ap reports p in absurd (omega arith)
 
-    -- what task c's report answers, if operation k is reported and is a read
-    reported-value : (c t k w : ℕ) (s : Status numbers) → reportRefusal (stageOf (b .ops) s) ≡ 0 → telling s (Action.report c) ≡ some (Action.report t k w) → (opAt (b .ops) k) .upd ≡ false
-        → valueOf (showStatus (b .ops) s) ≡ w
-    reported-value c t k w R.quiet e p u = absurd (omega arith)
-    reported-value c t k w (R.asking j) e p u = absurd (go (opAt (b .ops) j) ((opAt (b .ops) j) .upd) e)
+    -- what task c's report answers, if operation k is reported
+    reported-value : (c t k w : ℕ) (s : Status numbers) → reportRefusal (stageOf (b .ops) s) ≡ 0 → telling s (Action.report c) ≡ some (Action.report t k w) → valueOf (showStatus (b .ops) s) ≡ w
+    reported-value c t k w R.quiet e p = absurd (omega arith)
+    reported-value c t k w (R.asking j) e p = absurd (go (opAt (b .ops) j) ((opAt (b .ops) j) .upd) e)
       where
         go : (o : Op) (t : Bool) → reportRefusal (cond t (S.asksUpdate (o .reg)) (S.asksRead (o .reg))) ≡ 0 → ⊥
         go o true z = omega arith
         go o false z = omega arith
-    reported-value c t k w (R.waiting j) e p u = absurd (omega arith)
-    reported-value c t k w (R.done j v) e p u =
-        let z = ap reports p in
-        let jk : j ≡ k = omega arith in
-        ap (λ i. valueOf (showStatus (b .ops) (R.done i v))) jk ∙ ap (λ s. valueOf (cond s doneUpdate (doneRead v))) u ∙ ap tells p
+    reported-value c t k w (R.waiting j) e p = absurd (omega arith)
+    reported-value c t k w (R.done j v) e p = go ((opAt (b .ops) j) .upd) ∙ ap tells p
+      where
+        go : (s : Bool) → valueOf (cond s (doneUpdate v) (doneRead v)) ≡ v
+        go true = refl
+        go false = refl
 
-    value-is : (c : Command) (t k w : ℕ) → ledgerRefusal P b c ≡ 0 → plan P b c ≡ some (Action.report t k w) → (opAt (b .ops) k) .upd ≡ false → valueAt (shown P ds) c ≡ w
-    value-is (K.request-read c x) t k w e p u = other (plan P b (K.request-read c x)) t k w refl p
-    value-is (K.request-update c x n v) t k w e p u = other (plan P b (K.request-update c x n v)) t k w refl p
-    value-is (K.perform c) t k w e p u = other (plan P b (K.perform c)) t k w (about-none (b .layer .status c) (Action.perform c) (λ j. refl)) p
-    value-is (K.send-read c i) t k w e p u = other (plan P b (K.send-read c i)) t k w (about-none (b .layer .status c) (λ j. Action.send c j i) (λ j. refl)) p
-    value-is (K.send-update c) t k w e p u = other (plan P b (K.send-update c)) t k w (about-none (b .layer .status c) (λ j. Action.send c j 0) (λ j. refl)) p
-    value-is (K.dispatch i) t k w e p u = other (plan P b (K.dispatch i)) t k w (headed-none (b .layer .out i) (Action.dispatch i) (λ m. refl)) p
-    value-is (K.takeBroadcast i) t k w e p u = other (plan P b (K.takeBroadcast i)) t k w refl p
-    value-is (K.takeSingle c) t k w e p u = other (plan P b (K.takeSingle c)) t k w refl p
-    value-is (K.deliver i) t k w e p u = other (plan P b (K.deliver i)) t k w (headed-none (b .channel .inbox i) (λ m. Action.deliver m i) (λ m. refl)) p
-    value-is (K.report c) t k w e p u = reported-value c t k w (b .layer .status c) e p u
+    value-is : (c : Command) (t k w : ℕ) → ledgerRefusal P b c ≡ 0 → plan P b c ≡ some (Action.report t k w) → valueAt (shown P ds) c ≡ w
+    value-is (K.request-read c x) t k w e p = other (plan P b (K.request-read c x)) t k w refl p
+    value-is (K.request-update c x n v) t k w e p = other (plan P b (K.request-update c x n v)) t k w refl p
+    value-is (K.perform c) t k w e p = other (plan P b (K.perform c)) t k w (about-none (b .layer .status c) (Action.perform c) (λ j. refl)) p
+    value-is (K.send-read c i) t k w e p = other (plan P b (K.send-read c i)) t k w (about-none (b .layer .status c) (λ j. Action.send c j i) (λ j. refl)) p
+    value-is (K.send-update c) t k w e p = other (plan P b (K.send-update c)) t k w (about-none (b .layer .status c) (λ j. Action.send c j 0) (λ j. refl)) p
+    value-is (K.dispatch i) t k w e p = other (plan P b (K.dispatch i)) t k w (headed-none (b .layer .out i) (Action.dispatch i) (λ m. refl)) p
+    value-is (K.takeBroadcast i) t k w e p = other (plan P b (K.takeBroadcast i)) t k w refl p
+    value-is (K.takeSingle c) t k w e p = other (plan P b (K.takeSingle c)) t k w refl p
+    value-is (K.deliver i) t k w e p = other (plan P b (K.deliver i)) t k w (headed-none (b .channel .inbox i) (λ m. Action.deliver m i) (λ m. refl)) p
+    value-is (K.report c) t k w e p = reported-value c t k w (b .layer .status c) e p
 
     -- a report holds no message
     not-holding : (c : Command) (t k w : ℕ) → plan P b c ≡ some (Action.report t k w) → holding mail (sight P (shown P ds)) c ≡ false
@@ -174,15 +175,15 @@ module _ (P : Placement) (ok : placementRefusal P ≡ 0) where
     not-holding (K.deliver i) t k w p = refl
     not-holding (K.report c) t k w p = refl
 
-    -- the ledger takes a report: the published algorithm answers what the read found
-    pub answer-is : (d : Decoded) (t k w : ℕ) → notes P ds d ≡ Action.report t k w ∷ ds → (opAt (b .ops) k) .upd ≡ false → answerDecoded P (shown P ds) d ≡ record { result = 0; value = w }
-    answer-is (bad n) t k w e u = absurd (no-longer ds _ e)
-    answer-is (good c) t k w e u = go (ℕ-discrete (ledgerRefusal P b c) 0)
+    -- the ledger takes a report: what is answered is the value that it tells
+    pub answer-is : (d : Decoded) (t k w : ℕ) → notes P ds d ≡ Action.report t k w ∷ ds → answerDecoded P (shown P ds) d ≡ record { result = 0; value = w }
+    answer-is (bad n) t k w e = absurd (no-longer ds _ e)
+    answer-is (good c) t k w e = go (ℕ-discrete (ledgerRefusal P b c) 0)
       where
         go : Dec (ledgerRefusal P b c ≡ 0) → answerDecoded P (shown P ds) (good c) ≡ record { result = 0; value = w }
         go (yes z) =
             let p : plan P b c ≡ some (Action.report t k w) = taken P ok ds f c z .1 ∙ ap some (first-is _ (Action.report t k w) ds ds (sym (notes-taken P ok ds f c z) ∙ e)) in
             let r : commandRefusal P (shown P ds) c ≡ 0 = same-refusal P ok ds f c ∙ z in
             ap₂ (λ m v. record { result = m; value = v }) (ap₂ resultFrom r (not-holding c t k w p) ∙ not-held)
-            (ap₂ (λ m v. cond (eqb m 0) v 0) r (value-is c t k w z p u) ∙ ap (λ s. cond s w 0) (eqb-refl 0))
+            (ap₂ (λ m v. cond (eqb m 0) v 0) r (value-is c t k w z p) ∙ ap (λ s. cond s w 0) (eqb-refl 0))
         go (no n) = absurd (no-longer ds _ (sym (notes-refused P ok ds c n) ∙ e))

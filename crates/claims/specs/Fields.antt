@@ -3,7 +3,7 @@
 use Prim.Native.Nat.{ℕ, _<_}
 use mathlib.Core.Path.{_≡_}
 use mathlib.Core.Logic.{_⊎_}
-use mathlib.Core.Bool.{true, false}
+use mathlib.Core.Bool.{true}
 use mathlib.Core.List.{List, _∷_, _++_}
 use mathlib.Core.Option.{some}
 use Rattle.lists.specs.Histories.{In}
@@ -21,7 +21,7 @@ pub data Field : Type 0 where
   applied : Field
   once : Field
   tasks : Field
-  reads : Field
+  gives : Field
   copies : Field
   copy-values : Field
 
@@ -33,7 +33,7 @@ module _ (P : Placement) (steps : List RawStep) (answers : List Answer) (table :
   Says applied = (k i : ℕ) → In k (appliedOn P steps i) → In k order
   Says once = Once order
   Says tasks = (j k : ℕ) → In j order → In k order → (op P steps j) .task ≡ (op P steps k) .task → j < k → Precedes j k order
-  Says reads = (k n : ℕ) → ReportedAt P steps k n → (op P steps k) .upd ≡ false → (pre post : List ℕ) → order ≡ pre ++ k ∷ post
+  Says gives = (k n : ℕ) → ReportedAt P steps k n → (pre post : List ℕ) → order ≡ pre ++ k ∷ post
       → nth answers n ≡ some (record { result = 0; value = madeOfZero P steps (filter (updates P steps ((op P steps k) .reg)) pre) })
   Says copies = (x i : ℕ) → copy P x i ≡ true → (rest : List ℕ) × (filter (updates P steps x) order ≡ filter (updates P steps x) (appliedOn P steps i) ++ rest)
   Says copy-values = (x i : ℕ) → copy P x i ≡ true → table i x ≡ madeOfZero P steps (filter (updates P steps x) (appliedOn P steps i))

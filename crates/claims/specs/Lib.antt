@@ -3,9 +3,13 @@ pub mod Command
 pub mod Steps
 pub mod Refusals
 pub mod Results
+pub mod Messages
 pub mod Published
 pub mod Allowed
 pub mod PublishedRun
+pub mod Found
+pub mod FoundRun
+pub mod ForgetFound
 pub mod Held
 pub mod Ledger
 pub mod Paper

@@ -6,8 +6,6 @@ use mathlib.Core.Bool.{Bool, true, false, cond, _&&_, not}
 use mathlib.Core.List.{List, [], _∷_}
 use lib.Dec.{eqb}
 use Rattle.lists.specs.Queues.{push, pop}
-use Rattle.names.specs.declared.Body.{Body}
-use Rattle.names.specs.declared.Body.the-variants.{ReadDo, ReadReply, UpdateDo, UpdateReply}
 use Rattle.names.specs.CardSet.{memberOf, several, soleOf, justOf}
 use Rattle.names.specs.Update.{updated}
 use Rattle.names.specs.Placement.{Placement, home, holders, primary, copy}
@@ -15,6 +13,7 @@ use Rattle.automaton.specs.Mail.{Mail}
 use Rattle.automaton.specs.State.{ChannelState, initialChannel, channelStep}
 use Rattle.automaton.specs.State as C
 use Rattle.claims.specs.Command.{Command, request-read, request-update, perform, send-read, send-update, dispatch, takeBroadcast, takeSingle, deliver, report}
+use Rattle.claims.specs.Messages.{Body, ReadDo, ReadReply, UpdateDo, UpdateReply}
 use Rattle.claims.specs.Refusals.{Stage, Sight, refusal}
 use Rattle.claims.specs.Refusals as S
 

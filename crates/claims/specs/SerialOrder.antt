@@ -4,7 +4,7 @@
 use Prim.Native.Nat.{ℕ, _<_}
 use mathlib.Core.Path.{_≡_}
 use mathlib.Core.Logic.{_⊎_}
-use mathlib.Core.Bool.{Bool, true, false, _&&_}
+use mathlib.Core.Bool.{Bool, true, _&&_}
 use mathlib.Core.List.{List, [], _∷_, _++_}
 use mathlib.Core.Option.{some}
 use lib.Dec.{eqb}
@@ -61,8 +61,9 @@ module _ (P : Placement) (steps : List RawStep) where
     pub once : Once order
     -- b: a task's operations stand in the order of their numbers, which is that of its requests
     pub tasks : (j k : ℕ) → In j order → In k order → (op j) .task ≡ (op k) .task → j < k → Precedes j k order
-    -- c: each reported read gave (12.5) exactly what its register's earlier updates in the order make of zero
-    pub reads : (k n : ℕ) → ReportedAt k n → (op k) .upd ≡ false → (pre post : List ℕ) → order ≡ pre ++ k ∷ post
+    -- c: each reported operation gave (12.5) exactly what its register's earlier updates in the order make of zero: a read what it read, an update
+    -- what it found
+    pub gives : (k n : ℕ) → ReportedAt k n → (pre post : List ℕ) → order ≡ pre ++ k ∷ post
         → nth answers n ≡ some (record { result = 0; value = madeOfZero (filter (updates ((op k) .reg)) pre) })
     -- d: each copy shows (12.6) a first part of its register's updates in the order; it may be empty or the whole
     pub copies : (x i : ℕ) → copy P x i ≡ true → (rest : List ℕ) × (filter (updates x) order ≡ filter (updates x) (appliedOn i) ++ rest)

@@ -39,9 +39,9 @@ pub extern "C" fn gondzselu_channel_words() -> usize
 // The version of what is offered: major * 1,000,000 + minor * 1,000 + patch.
 #[no_mangle]
 pub extern "C" fn gondzselu_version() -> u32
-    ensures { λ r. ⌜ r ≡ 7000 ⌝ }
+    ensures { λ r. ⌜ r ≡ 8000 ⌝ }
 {
-    7000
+    8000
 }
 
 // ---- a whole run
@@ -266,7 +266,8 @@ pub extern "C" fn gondzselu_task(
     store::kind_of(store::doing_of(registers, channel, Task(task)))
 }
 
-// The value read by a task that is done with a read, the operand of one that asks for an update; else 0.
+// The value read by a task that is done with a read, the value found by one that is done with an update, the operand of one that asks for an
+// update; else 0.
 #[no_mangle]
 pub extern "C" fn gondzselu_task_value(
     registers: &[u32; 593],

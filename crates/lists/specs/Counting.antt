@@ -125,3 +125,8 @@ pub only-one : {A : Type 0} (a : A) (l : List A) → Once l → ((b : A) → In 
 only-one a [] o f h = absurd (any-nil h)
 only-one a (b ∷ []) o f h = ap (λ x. x ∷ []) (f b (here refl))
 only-one a (b ∷ c ∷ l) o f h = absurd (o .0 (here (f c (there (here refl)) ∙ sym (f b (here refl)))))
+
+-- what stands once does not stand in front of itself
+pub once-front : {A : Type 0} (l r : List A) (a : A) → Once (l ++ a ∷ r) → ¬ In a l
+once-front (b ∷ l) r a o (here p) = o .0 (subst (λ x. In x (l ++ a ∷ r)) (sym p) (any-right l (here refl)))
+once-front (b ∷ l) r a o (there h) = once-front l r a (o .1) h

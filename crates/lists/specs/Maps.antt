@@ -50,3 +50,12 @@ module _ {A B : Type 0} (h k : A → B) where
   pub option-agree : (o : Option A) → ((a : A) → o ≡ some a → h a ≡ k a) → Option·map h o ≡ Option·map k o
   option-agree none e = refl
   option-agree (some a) e = ap some (e a refl)
+
+module _ {A B C : Type 0} (g : B → C) (h : A → B) where
+  pub map-map : (l : List A) → map g (map h l) ≡ map (λ a. g (h a)) l
+  map-map [] = refl
+  map-map (a ∷ l) = ap (λ r. g (h a) ∷ r) (map-map l)
+
+  pub option-map-map : (o : Option A) → Option·map g (Option·map h o) ≡ Option·map (λ a. g (h a)) o
+  option-map-map none = refl
+  option-map-map (some a) = refl

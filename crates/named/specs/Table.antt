@@ -1,10 +1,11 @@
--- The named runs K1 to K10 (RULES 13) and two more: the bytes of each file, and of its answer.
+-- The named runs K1 to K10 (RULES 13) and three more: the bytes of each file, and of its answer.
 use mathlib.Core.Path.{_≡_}
 use mathlib.Core.List.{List, [], _∷_}
 use Rattle.lists.specs.Histories.{In}
 use Rattle.runfile.specs.Run.{answerOf}
 use Rattle.named.specs.NamedRun.{NamedRun}
 use Rattle.named.specs.Counter.{counter}
+use Rattle.named.specs.Tickets.{tickets}
 
 -- K1, the smallest file: no steps
 abbrev pub k1 : NamedRun
@@ -257,7 +258,7 @@ two-held = record {
 
 -- all of them
 abbrev pub table : List NamedRun
-table = k1 ∷ k2 ∷ k3 ∷ k4 ∷ k4-eight ∷ k5 ∷ k6 ∷ k7 ∷ k8 ∷ k9 ∷ k10 ∷ two-held ∷ counter ∷ []
+table = k1 ∷ k2 ∷ k3 ∷ k4 ∷ k4-eight ∷ k5 ∷ k6 ∷ k7 ∷ k8 ∷ k9 ∷ k10 ∷ two-held ∷ counter ∷ tickets ∷ []
 
 -- they are proved together, in one table (RULES 13.1)
 abbrev pub NamedRuns : Type 0

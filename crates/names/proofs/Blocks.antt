@@ -1,7 +1,7 @@
 -- A packet written is the packet read, and no other word changes; a letter whose fields have room is carried as it is.
 use Prim.Native.Nat.{ℕ, zero, suc, _+_, _*_, _/_, _%_, _<_, _≤_}
 use mathlib.Core.Path.{_≡_, refl, ap₂, _∙_}
-use mathlib.Core.Bool.{cond, _||_}
+use mathlib.Core.Bool.{cond, not, _||_}
 use mathlib.Core.Logic.{_≢_}
 use mathlib.Core.List.{List}
 use native.Mathlib.Omega.{arith}
@@ -22,7 +22,7 @@ unfolding bodyOf kindOf functionOf valueOf
 body-back ReadDo = refl
 body-back (ReadReply v) = refl
 body-back (UpdateDo f v) = refl
-body-back UpdateReply = refl
+body-back (UpdateReply v) = refl
 
 -- a body is of one of the four kinds
 pub kind-some : (y : Body) → (1 ≤ kindOf y) × (kindOf y ≤ 4)
@@ -30,14 +30,14 @@ unfolding kindOf
 kind-some ReadDo = (omega arith, omega arith)
 kind-some (ReadReply v) = (omega arith, omega arith)
 kind-some (UpdateDo f v) = (omega arith, omega arith)
-kind-some UpdateReply = (omega arith, omega arith)
+kind-some (UpdateReply v) = (omega arith, omega arith)
 
 -- what a body has of the kind, function and value that it is read from
 abbrev Kept : ℕ → ℕ → ℕ → Type 0
 Kept k f v =
     (kindOf (bodyOf k f v) ≡ cond (eqb k 0 || ltb 4 k) 4 k)
     × (functionOf (bodyOf k f v) ≡ cond (eqb k 2) f 0)
-    × (valueOf (bodyOf k f v) ≡ cond (eqb k 2 || eqb k 3) v 0)
+    × (valueOf (bodyOf k f v) ≡ cond (not (eqb k 1)) v 0)
 
 kept-past : (k f v : ℕ) → 4 < k → Kept k f v
 unfolding bodyOf kindOf functionOf valueOf

@@ -14,25 +14,25 @@ use Rattle.names.specs.declared.Packet.{Packet}
 use Rattle.names.specs.Update.{knownFunction}
 
 unfoldable pub bodyOf : ℕ → ℕ → ℕ → Body
-bodyOf k f v = cond (eqb k 1) ReadDo (cond (eqb k 2) (UpdateDo f v) (cond (eqb k 3) (ReadReply v) UpdateReply))
+bodyOf k f v = cond (eqb k 1) ReadDo (cond (eqb k 2) (UpdateDo f v) (cond (eqb k 3) (ReadReply v) (UpdateReply v)))
 
 unfoldable pub kindOf : Body → ℕ
 kindOf ReadDo = 1
 kindOf (ReadReply v) = 3
 kindOf (UpdateDo f v) = 2
-kindOf UpdateReply = 4
+kindOf (UpdateReply v) = 4
 
 unfoldable pub functionOf : Body → ℕ
 functionOf ReadDo = 0
 functionOf (ReadReply v) = 0
 functionOf (UpdateDo f v) = f
-functionOf UpdateReply = 0
+functionOf (UpdateReply v) = 0
 
 unfoldable pub valueOf : Body → ℕ
 valueOf ReadDo = 0
 valueOf (ReadReply v) = v
 valueOf (UpdateDo f v) = v
-valueOf UpdateReply = 0
+valueOf (UpdateReply v) = v
 
 -- ---- the fields of a first word; the destinations are all that is left of it, so no part of a word is out of sight
 
@@ -112,4 +112,4 @@ unfoldable pub known : Body → Bool
 known ReadDo = true
 known (ReadReply v) = true
 known (UpdateDo f v) = knownFunction f
-known UpdateReply = true
+known (UpdateReply v) = true

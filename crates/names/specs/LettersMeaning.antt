@@ -26,5 +26,5 @@ pub record LettersComputed : Type 0 where
   pub update : packetOf (letter 2 0 (UpdateDo 1 7) 7) ≡ record { word = 233490; value = 7 }
   pub read : packetOf (letter 15 31 ReadDo 128) ≡ record { word = 4198393; value = 0 }
   pub read-reply : packetOf (letter 0 1 (ReadReply 4294967295) 1) ≡ record { word = 32899; value = 4294967295 }
-  pub update-reply : packetOf (letter 1 0 UpdateReply 2) ≡ record { word = 65548; value = 0 }
+  pub update-reply : packetOf (letter 1 0 (UpdateReply 8) 2) ≡ record { word = 65548; value = 8 }
   pub largest : packetOf (letter 15 31 (UpdateDo 5 9) 255) ≡ record { word = 8380410; value = 9 }

@@ -25,7 +25,7 @@ pub fn body_of(kind: u32, function: u32, value: u32) -> Body
     if kind == 3 {
         return Body::ReadReply(value);
     }
-    Body::UpdateReply
+    Body::UpdateReply(value)
 }
 
 // The kind of a body in memory, 1 to 4 (RULES 11.13).
@@ -36,7 +36,7 @@ pub fn kind_of(body: Body) -> u32
         Body::ReadDo => 1,
         Body::ReadReply(_) => 3,
         Body::UpdateDo(_, _) => 2,
-        Body::UpdateReply => 4,
+        Body::UpdateReply(_) => 4,
     }
 }
 
@@ -48,7 +48,7 @@ pub fn function_of(body: Body) -> u32
         Body::ReadDo => 0,
         Body::ReadReply(_) => 0,
         Body::UpdateDo(f, _) => f,
-        Body::UpdateReply => 0,
+        Body::UpdateReply(_) => 0,
     }
 }
 
@@ -60,7 +60,7 @@ pub fn value_of(body: Body) -> u32
         Body::ReadDo => 0,
         Body::ReadReply(v) => v,
         Body::UpdateDo(_, v) => v,
-        Body::UpdateReply => 0,
+        Body::UpdateReply(v) => v,
     }
 }
 
@@ -171,6 +171,6 @@ pub fn repacked(packet: Packet) -> Packet
     );
     Packet {
         word: fields,
-        value: picked(update | (kind == 3), packet.value),
+        value: picked(kind != 1, packet.value),
     }
 }

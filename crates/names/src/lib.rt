@@ -31,8 +31,8 @@ pub enum Body {
     ReadReply(u32),
     // receive((update-do, c, ξ, x, f), j)_i: function and operand
     UpdateDo(u32, u32),
-    // receive((update-reply, c, ξ, x), j)_i
-    UpdateReply,
+    // receive((update-reply, c, ξ, x), j)_i: and, beside the figure, the value found
+    UpdateReply(u32),
 }
 
 // A message serves the open request of one task on one register.
@@ -55,7 +55,7 @@ pub struct Packet {
 }
 
 // What a step answers: 0 where it is taken, or 100 where it is taken and its message is held, else its refusal; and the value that a taken
-// report of a read gives, else 0.
+// report gives, read or found, else 0.
 pub struct Answer {
     pub result: u8,
     pub value: u32,

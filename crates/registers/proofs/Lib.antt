@@ -13,5 +13,6 @@ pub mod Laws
 pub mod Serial
 pub mod Values
 pub mod SequentialConsistency
+pub mod OneOrder
 pub mod Fresh
 pub mod Mistakes

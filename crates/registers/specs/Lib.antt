@@ -5,3 +5,5 @@ pub mod Events
 pub mod Explains
 pub mod Key
 pub mod SequentialConsistency
+-- and that all holders of a register apply its updates in it
+pub mod OneOrder

@@ -10,7 +10,7 @@ use lib.Dec.{eqb, ltb}
 use lib.ListN.{length, drop, length-append, length-map}
 use Rattle.lists.specs.Histories.{In}
 use Rattle.names.specs.declared.Answer.{Answer}
-use Rattle.claims.specs.Published.{begin}
+use Rattle.claims.specs.Found.{begin}
 use Rattle.claims.specs.SerialOrder.{SerialOrder}
 use Rattle.claims.proofs.FewRequests.{never-23}
 use Rattle.store.specs.Demand2.{Stands}

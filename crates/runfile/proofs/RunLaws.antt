@@ -6,7 +6,7 @@ use borrow.Author.Tests.{eq-eqb, le-ltb}
 use lib.ListN.{length}
 use Rattle.lists.specs.Listings.{listing}
 use Rattle.names.specs.declared.Answer.{Answer}
-use Rattle.claims.specs.Published.{begin}
+use Rattle.claims.specs.Found.{begin}
 use Rattle.store.specs.Run.{Store, started}
 use Rattle.store.proofs.StartLaw.{start-stands}
 use Rattle.store.proofs.Demand3.{answers-same}

@@ -6,7 +6,7 @@ use mathlib.Core.List.{List, _++_}
 use lib.ListN.{length, drop}
 use Rattle.lists.specs.Histories.{In}
 use Rattle.names.specs.declared.Answer.{Answer}
-use Rattle.claims.specs.Published.{begin}
+use Rattle.claims.specs.Found.{begin}
 use Rattle.claims.specs.SerialOrder.{SerialOrder}
 use Rattle.store.specs.Demand2.{Stands}
 use Rattle.store.specs.Run.{Store, started, storeAfter, answersOf, tableOf}

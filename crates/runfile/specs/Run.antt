@@ -7,8 +7,8 @@ use lib.ListN.{length}
 use Rattle.lists.specs.Filters.{filter}
 use Rattle.names.specs.declared.Answer.{Answer}
 use Rattle.names.specs.Results.{isTaken}
-use Rattle.claims.specs.Published.{begin}
-use Rattle.claims.specs.PublishedRun.{answersFrom}
+use Rattle.claims.specs.Found.{begin}
+use Rattle.claims.specs.FoundRun.{answersFrom}
 use Rattle.tables.specs.Start.{startRegisters, startChannel}
 use Rattle.runfile.specs.declared.Answered.{Answered}
 use Rattle.runfile.specs.RunFile.{stepsIn, placementIn, runFileIn, fileRefusal}
@@ -21,7 +21,7 @@ fileRegisters file rs = cond (eqb (fileRefusal file) 0) (startRegisters (placeme
 unfoldable pub fileChannel : List ℕ → List ℕ → List ℕ
 fileChannel file cs = cond (eqb (fileRefusal file) 0) (startChannel (placementIn file) cs) cs
 
--- what the published algorithm answers to the steps of a file, begun from its placement
+-- what the algorithm that the store runs answers to the steps of a file, begun from its placement
 unfoldable pub answersIn : List ℕ → List Answer
 answersIn file = answersFrom (placementIn file) begin (runFileIn file .steps)
 

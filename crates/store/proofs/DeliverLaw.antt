@@ -29,8 +29,8 @@ use Rattle.channel.proofs.OfferedCalls.{receive-passes, got-number}
 use Rattle.claims.specs.Command as Step
 use Rattle.claims.specs.Steps.{good}
 use Rattle.claims.specs.Refusals.{outboxRoom}
-use Rattle.claims.specs.Published.{Published, mail, setStatus, setCopy, post, withChannel, replies, replyTo, receiving, doneUpdate}
-use Rattle.claims.specs.Published as Pub
+use Rattle.claims.specs.Found.{Found, mail, setStatus, setCopy, post, withChannel, replies, replyTo, receiving, doneUpdate}
+use Rattle.claims.specs.Found as F
 use Rattle.tables.specs.declared.Doing.the-variants.{DoneRead, DoneUpdate}
 use Rattle.tables.specs.Layout.{homeOf, copyOf, onlyCard}
 use Rattle.tables.specs.Doings.{doingStored}
@@ -48,9 +48,9 @@ use Rattle.store.proofs.PerformLaw.{updated-ready}
 use Rattle.store.proofs.Posting.{just-some, just-present, only-just, room-is, post-ready}
 use Rattle.store.proofs.TrafficLaw.{channel-ready}
 
-module _ (rs cs : List ℕ) (P : Placement) (s : Published) (z : Ready rs cs P s) (i : ℕ) (card : i < cardsOf cs) where
+module _ (rs cs : List ℕ) (P : Placement) (s : Found) (z : Ready rs cs P s) (i : ℕ) (card : i < cardsOf cs) where
   -- card i delivers message m of a present task, on a present register
-  module _ (m : Pub.Letter) (task : m .task < tasksOf cs) (register : m .reg < registersOf cs) where
+  module _ (m : F.Letter) (task : m .task < tasksOf cs) (register : m .reg < registersOf cs) where
     home-is : home P (m .task) ≡ homeOf rs (m .task)
     home-is = z .show .home= (m .task) task
 
@@ -66,10 +66,10 @@ module _ (rs cs : List ℕ) (P : Placement) (s : Published) (z : Ready rs cs P s
     body-number ReadDo = sym room
     body-number (ReadReply v) = refl
     body-number (UpdateDo f w) = rw (here-is, room)
-    body-number UpdateReply = refl
+    body-number (UpdateReply v) = refl
 
     -- a reply joins the outbox, on memories with the same outboxes as now
-    reply-ready : (us : List ℕ) (u : Published) → Ready us cs P u → length (u .out i) ≡ length (s .out i) → roomy rs i ≡ true → (b : Body) → known b ≡ true
+    reply-ready : (us : List ℕ) (u : Found) → Ready us cs P u → length (u .out i) ≡ length (s .out i) → roomy rs i ≡ true → (b : Body) → known b ≡ true
         → Ready (replied us i (m .task) (m .reg) b) cs P (record { requests = u .requests; status = u .status; table = u .table; out = post i (replyTo P m b) (u .out); channel = u .channel })
     unfolding replied roomy
     reply-ready us u y same r b k =
@@ -83,27 +83,34 @@ module _ (rs cs : List ℕ) (P : Placement) (s : Published) (z : Ready rs cs P s
         (post-ready us cs P u y i card (m .task) (m .reg) b (justOf (home P (m .task))) (ap (λ q. ltb q 16) n ∙ r) task register k
         (just-some (home P (m .task))) (just-present (home P (m .task)) (cardsOf cs) there))
 
+    -- the value that an update finds here
+    abbrev v : ℕ
+    v = s .table i (m .reg)
+
+    found-is : copyOf rs i (m .reg) ≡ v
+    found-is = sym (z .show .table= i (m .reg) card register)
+
     -- an update applied, and its task done if this is its home
     applied-ready : (f w : ℕ) → Ready (applied rs i (m .task) (m .reg) f w) cs P
         (record {
           requests = s .requests;
-          status = cond (eqb i (home P (m .task))) (setStatus (m .task) doneUpdate (s .status)) (s .status);
+          status = cond (eqb i (home P (m .task))) (setStatus (m .task) (doneUpdate v) (s .status)) (s .status);
           table = setCopy i (m .reg) (updated f w (s .table i (m .reg))) (s .table);
           out = s .out;
           channel = s .channel;
         })
     unfolding applied statusOf doingFits
-    applied-ready f w = rw home-is (go (eqb i (homeOf rs (m .task))))
+    applied-ready f w = rw (home-is, found-is) (go (eqb i (homeOf rs (m .task))))
       where
-        go : (b : Bool) → Ready (cond b (doingStored (copyUpdated rs i (m .reg) f w) (m .task) DoneUpdate) (copyUpdated rs i (m .reg) f w)) cs P
+        go : (b : Bool) → Ready (cond b (doingStored (copyUpdated rs i (m .reg) f w) (m .task) (DoneUpdate v)) (copyUpdated rs i (m .reg) f w)) cs P
             (record {
               requests = s .requests;
-              status = cond b (setStatus (m .task) doneUpdate (s .status)) (s .status);
+              status = cond b (setStatus (m .task) (doneUpdate v) (s .status)) (s .status);
               table = setCopy i (m .reg) (updated f w (s .table i (m .reg))) (s .table);
               out = s .out;
               channel = s .channel;
             })
-        go true = doing-ready (copyUpdated rs i (m .reg) f w) cs P _ (updated-ready rs cs P s z i (m .reg) f w card register) (m .task) task DoneUpdate refl
+        go true = doing-ready (copyUpdated rs i (m .reg) f w) cs P _ (updated-ready rs cs P s z i (m .reg) f w card register) (m .task) task (DoneUpdate v) refl
         go false = updated-ready rs cs P s z i (m .reg) f w card register
 
     roomed : (b : Bool) → _≡_ {A = ℕ} (cond b 0 6) 0 → b ≡ true
@@ -117,22 +124,22 @@ module _ (rs cs : List ℕ) (P : Placement) (s : Published) (z : Ready rs cs P s
         rw (r, z .show .table= i (m .reg) card register)
         (reply-ready rs s z refl r (ReadReply (copyOf rs i (m .reg))) refl)
     body-ready (ReadReply v) n = doing-ready rs cs P s z (m .task) task (DoneRead v) refl
-    body-ready (UpdateDo f w) n = rw here-is (go (repliesHere rs i (m .task) (m .reg)) n)
+    body-ready (UpdateDo f w) n = rw (here-is, found-is) (go (repliesHere rs i (m .task) (m .reg)) n)
       where
         go : (b : Bool) → _≡_ {A = ℕ} (cond b (cond (roomy rs i) 0 6) 0) 0
-            → Ready (cond b (cond (roomy rs i) (replied (applied rs i (m .task) (m .reg) f w) i (m .task) (m .reg) UpdateReply) rs) (applied rs i (m .task) (m .reg) f w)) cs P
+            → Ready (cond b (cond (roomy rs i) (replied (applied rs i (m .task) (m .reg) f w) i (m .task) (m .reg) (UpdateReply v)) rs) (applied rs i (m .task) (m .reg) f w)) cs P
             (record {
               requests = s .requests;
-              status = cond (eqb i (home P (m .task))) (setStatus (m .task) doneUpdate (s .status)) (s .status);
+              status = cond (eqb i (home P (m .task))) (setStatus (m .task) (doneUpdate v) (s .status)) (s .status);
               table = setCopy i (m .reg) (updated f w (s .table i (m .reg))) (s .table);
-              out = cond b (post i (replyTo P m UpdateReply) (s .out)) (s .out);
+              out = cond b (post i (replyTo P m (UpdateReply v)) (s .out)) (s .out);
               channel = s .channel;
             })
         go true q =
             let r = roomed (roomy rs i) q in
-            rw r (reply-ready (applied rs i (m .task) (m .reg) f w) _ (applied-ready f w) refl r UpdateReply refl)
+            rw r (reply-ready (applied rs i (m .task) (m .reg) f w) _ (applied-ready f w) refl r (UpdateReply v) refl)
         go false q = applied-ready f w
-    body-ready UpdateReply n = doing-ready rs cs P s z (m .task) task DoneUpdate refl
+    body-ready (UpdateReply v) n = doing-ready rs cs P s z (m .task) task (DoneUpdate v) refl
 
     body-refused : (b : Body) → bodyNumber rs i (m .task) (m .reg) b ≢ 0 → bodyWords rs i (m .task) (m .reg) b ≡ rs
     unfolding bodyNumber bodyWords
@@ -148,9 +155,9 @@ module _ (rs cs : List ℕ) (P : Placement) (s : Published) (z : Ready rs cs P s
         go true true us ts q = absurd (q refl)
         go true false us ts q = refl
         go false b us ts q = absurd (q refl)
-    body-refused UpdateReply n = absurd (n refl)
+    body-refused (UpdateReply v) n = absurd (n refl)
 
-module _ (rs cs : List ℕ) (P : Placement) (s : Published) (z : Ready rs cs P s) (i : Card) (card : i .0 < cardsOf cs) where
+module _ (rs cs : List ℕ) (P : Placement) (s : Found) (z : Ready rs cs P s) (i : Card) (card : i .0 < cardsOf cs) where
   abbrev w : ChannelState Letter
   w = z .channel-shows .letters
 
@@ -199,7 +206,7 @@ module _ (rs cs : List ℕ) (P : Placement) (s : Published) (z : Ready rs cs P s
         shown ReadDo v = v
         shown (ReadReply x) v = v
         shown (UpdateDo f x) v = v
-        shown UpdateReply v = v
+        shown (UpdateReply x) v = v
 
   pub deliver-follows : StepFollows rs cs P s (outcome (deliverNumber rs cs i) (deliverRegisters rs cs i) (deliverChannel rs cs i)) (good (Step.deliver (i .0)))
   unfolding deliverNumber deliverRegisters deliverChannel foundNumber foundWords

@@ -1,4 +1,4 @@
--- Demand 3: the store keeps step with the published algorithm, answer by answer, so what explains that explains the store.
+-- Demand 3: the store keeps step with the algorithm that it runs on paper, answer by answer, so what explains that explains the store.
 use Prim.Native.Nat.{ℕ, _<_, _^_}
 use mathlib.Core.Path.{_≡_, refl, subst, sym, ap₂, _∙_}
 use mathlib.Core.Bool.{true}
@@ -14,8 +14,8 @@ use Rattle.names.specs.Placement.{Placement, registers, holders, copy}
 use Rattle.channel.proofs.Offered.{member-present}
 use Rattle.claims.specs.Steps.{RawStep, decode}
 use Rattle.claims.specs.Reports.{LedgerNumbers}
-use Rattle.claims.specs.Published.{Published, begin}
-use Rattle.claims.specs.PublishedRun.{Answer, afterDecoded, answersFrom, finalFrom}
+use Rattle.claims.specs.Found.{Found, begin}
+use Rattle.claims.specs.FoundRun.{Answer, afterDecoded, answersFrom, finalFrom}
 use Rattle.claims.proofs.Demand3.{demand-3}
 use Rattle.claims.proofs.LedgerNumbers.{ledger-numbers}
 use Rattle.store.specs.Demand2.{Stands}
@@ -26,14 +26,14 @@ use Rattle.store.proofs.StartLaw.{start-stands}
 
 module _ (P : Placement) where
   -- the store shows this state
-  abbrev pub At : Store → Published → Type 0
+  abbrev pub At : Store → Found → Type 0
   At m s = Stands (m .registers) (m .channel) P s
 
-  pub after-shows : (m : Store) (s : Published) (l : List RawStep) → At m s → At (storeAfter m l) (finalFrom P s l)
+  pub after-shows : (m : Store) (s : Found) (l : List RawStep) → At m s → At (storeAfter m l) (finalFrom P s l)
   after-shows m s [] z = z
   after-shows m s (a ∷ l) z = after-shows (next m a) (afterDecoded P s (decode P a)) l (step-follows (m .registers) (m .channel) P s z a .stands)
 
-  pub answers-same : (m : Store) (s : Published) (l : List RawStep) → At m s → answersOf m l ≡ answersFrom P s l
+  pub answers-same : (m : Store) (s : Found) (l : List RawStep) → At m s → answersOf m l ≡ answersFrom P s l
   answers-same m s [] z = refl
   answers-same m s (a ∷ l) z =
       let k = step-follows (m .registers) (m .channel) P s z a in
@@ -51,7 +51,7 @@ module _ (P : Placement) where
           let z : 0 < 2 ^ 0 = omega arith in
           absurd (omega (arith, member-present 0 0 i z q))
 
-  values : (m : Store) (s : Published) → At m s → (x i : ℕ) → copy P x i ≡ true → tableOf m i x ≡ s .table i x
+  values : (m : Store) (s : Found) → At m s → (x i : ℕ) → copy P x i ≡ true → tableOf m i x ≡ s .table i x
   values m s z x i c =
       let v = z .shows in
       let card : i < P .cards = ltb-true _ _ (and-fst (ltb i (P .cards)) (memberOf (holders P x) i) c) in
@@ -70,7 +70,7 @@ store-demand-3 P ok m steps =
         applied = r .1 .applied;
         once = r .1 .once;
         tasks = r .1 .tasks;
-        reads = rw (answers-same P (started P m) begin steps z) (r .1 .reads);
+        gives = rw (answers-same P (started P m) begin steps z) (r .1 .gives);
         copies = r .1 .copies;
         copy-values = λ x i c. values P (storeAfter (started P m) steps) (finalFrom P begin steps) g x i c ∙ r .1 .copy-values x i c;
       },

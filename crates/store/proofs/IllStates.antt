@@ -65,7 +65,7 @@ module _ (rs cs : List ℕ) where
       unknown (inr h) = function t x f w c q h
   doing-fails t c Waiting q e = absurd (clash refl e)
   doing-fails t c (DoneRead v) q e = absurd (clash refl e)
-  doing-fails t c DoneUpdate q e = absurd (clash refl e)
+  doing-fails t c (DoneUpdate v) q e = absurd (clash refl e)
 
   task-fails : (t : ℕ) → t < tasksOf cs → taskFits rs cs t ≡ false → IllSized rs cs
   unfolding taskFits

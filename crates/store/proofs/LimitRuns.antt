@@ -11,8 +11,8 @@ use Rattle.names.specs.Placement.{homePlaced, homesPlaced, placed, placementRef
 use Rattle.names.specs.Results.{resultFrom}
 use Rattle.names.specs.Update.{knownFunction, largerOf, raised, sumOf, updated}
 use Rattle.claims.specs.Steps.{RawStep, cardThere, commandOf, decode, functionThere, known, namesCard, namesChosen, namesFunction, namesRegister, namesTask, operand, registerThere, taskThere, unnamedZero}
-use Rattle.claims.specs.Published.{begin}
-use Rattle.claims.specs.PublishedRun.{finalFrom, answersFrom}
+use Rattle.claims.specs.Found.{begin}
+use Rattle.claims.specs.FoundRun.{finalFrom, answersFrom}
 use Rattle.store.specs.Run.{Store, started}
 use Rattle.store.specs.LimitRuns.{crowd, outbox-run, held-run, inbox-run, k11, k12, resultsOf, thenRefused, LimitsMet}
 use Rattle.store.proofs.StartLaw.{start-stands}

@@ -2,7 +2,7 @@
 use mathlib.Core.Path.{subst}
 use native.Mathlib.Omega.{arith}
 use Rattle.lists.specs.Histories.{In}
-use Rattle.claims.specs.Published.{begin}
+use Rattle.claims.specs.Found.{begin}
 use Rattle.claims.proofs.FewRequests.{never-23}
 use Rattle.store.specs.Run.{started}
 use Rattle.store.specs.Starts.{NeverTwentyThree}

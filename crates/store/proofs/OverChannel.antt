@@ -14,12 +14,12 @@ use Rattle.channel.specs.Results.{channelResult}
 use Rattle.automaton.specs.Renaming.{action-map, Alike}
 use Rattle.channel.specs.MemoryCalls.{SameSizes}
 use Rattle.channel.proofs.OfferedCalls.{Passes, channelResult-map, channelStep-map}
-use Rattle.claims.specs.Published.{mail}
-use Rattle.claims.specs.Published as Pub
+use Rattle.claims.specs.Found.{mail}
+use Rattle.claims.specs.Found as F
 use Rattle.tables.specs.Shows.{plain, ChannelShows}
 
 -- a call whose names are in range answers n and leaves ds, as the published channel's operation x does
-pub record Goes (cs : List ℕ) (w : ChannelState Pub.Letter) (x : ChannelAction Pub.Letter) (n : ℕ) (ds : List ℕ) : Type 0 where
+pub record Goes (cs : List ℕ) (w : ChannelState F.Letter) (x : ChannelAction F.Letter) (n : ℕ) (ds : List ℕ) : Type 0 where
   pub number : n ≡ channelResult mail (cardsOf cs) w x
   pub shows : isTaken n ≡ true → ChannelShows ds (channelStep mail w x)
   pub untouched : isTaken n ≡ false → ds ≡ cs
@@ -30,7 +30,7 @@ pub record Goes (cs : List ℕ) (w : ChannelState Pub.Letter) (x : ChannelAction
 alike : Alike plain letterMail mail
 alike = record { task= = λ m. refl; multi= = λ m. refl; dest= = λ m. refl }
 
-pub goes : (cs : List ℕ) (w : ChannelState Pub.Letter) (v : ChannelShows cs w) (x : ChannelAction Letter) (n : ℕ) (ds : List ℕ)
+pub goes : (cs : List ℕ) (w : ChannelState F.Letter) (v : ChannelShows cs w) (x : ChannelAction Letter) (n : ℕ) (ds : List ℕ)
     → Passes cs (v .letters) x n ds → Goes cs w (action-map plain x) n ds
 goes cs w v x n ds k = record {
   number = k .number ∙ sym (channelResult-map plain letterMail mail alike (cardsOf cs) (v .letters) (λ n m e i. refl) x)

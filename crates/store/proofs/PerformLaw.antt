@@ -19,7 +19,7 @@ use Rattle.claims.specs.Command.{perform}
 use Rattle.claims.specs.Steps.{good}
 use Rattle.claims.specs.Refusals.{performRefusal}
 use Rattle.claims.specs.Refusals as R
-use Rattle.claims.specs.Published.{Published, setCopy, performing, stage}
+use Rattle.claims.specs.Found.{Found, setCopy, performing, stage}
 use Rattle.tables.specs.declared.Doing.{Doing}
 use Rattle.tables.specs.declared.Doing.the-variants.{Quiet, AskingRead, AskingUpdate, Waiting, DoneRead, DoneUpdate}
 use Rattle.tables.specs.Layout.{copyWord, homeOf, holds, copyOf}
@@ -34,7 +34,7 @@ use Rattle.tables.proofs.Sizing.{copy-fit}
 use Rattle.store.proofs.Standing.{Ready, home-there, holds-is, registers-ready, follows}
 use Rattle.store.proofs.RequestLaw.{doing-ready}
 
-module _ (rs cs : List ℕ) (P : Placement) (s : Published) (z : Ready rs cs P s) where
+module _ (rs cs : List ℕ) (P : Placement) (s : Found) (z : Ready rs cs P s) where
   -- the register that an asking task asks for is present
   pub reads-there : (x : Register) → doingFits cs (AskingRead x) ≡ true → x .0 < registersOf cs
   unfolding doingFits
@@ -77,32 +77,28 @@ module _ (rs cs : List ℕ) (P : Placement) (s : Published) (z : Ready rs cs P s
         rw (alone-is (x .0) (home P t) (updates-there x f w e) (home-there rs cs P s z t there), home-is) (otherwise-is (alone rs (x .0) (homeOf rs t)))
     number-of Waiting e = refl
     number-of (DoneRead v) e = refl
-    number-of DoneUpdate e = refl
+    number-of (DoneUpdate v) e = refl
+
+    -- a test that refuses with 22 where it fails
+    allowed : (b : Bool) → _≡_ {A = ℕ} (cond b 0 22) 0 → b ≡ true
+    allowed true q = refl
+    allowed false q = absurd (omega arith)
 
     ready-of : (d : Doing) → doingFits cs d ≡ true → performNumberOf rs t d ≡ 0 → Ready (performWordsOf rs t d) cs P (performing s t (home P t) (statusOf d))
     unfolding performNumberOf performWordsOf performReadNumber performReadWords performUpdateNumber performUpdateWords statusOf doingFits
     ready-of Quiet e n = absurd (omega arith)
-    ready-of (AskingRead x) e n = go (holds rs (x .0) (homeOf rs t)) n
-      where
-        go : (b : Bool) → _≡_ {A = ℕ} (cond b 0 22) 0
-            → Ready (cond b (doingStored rs t (DoneRead (copyOf rs (homeOf rs t) (x .0)))) rs) cs P (performing s t (home P t) (statusOf (AskingRead x)))
-        go true q =
-            let h : homeOf rs t < cardsOf cs = rw (← home-is) (home-there rs cs P s z t there) in
-            rw (home-is, z .show .table= (homeOf rs t) (x .0) h (reads-there x e))
-            (doing-ready rs cs P s z t there (DoneRead (copyOf rs (homeOf rs t) (x .0))) refl)
-        go false q = absurd (omega arith)
-    ready-of (AskingUpdate x f w) e n = go (alone rs (x .0) (homeOf rs t)) n
-      where
-        go : (b : Bool) → _≡_ {A = ℕ} (cond b 0 22) 0
-            → Ready (cond b (doingStored (copyUpdated rs (homeOf rs t) (x .0) f w) t DoneUpdate) rs) cs P (performing s t (home P t) (statusOf (AskingUpdate x f w)))
-        go true q =
-            let h : homeOf rs t < cardsOf cs = rw (← home-is) (home-there rs cs P s z t there) in
-            rw home-is
-            (doing-ready (copyUpdated rs (homeOf rs t) (x .0) f w) cs P _ (updated-ready (homeOf rs t) (x .0) f w h (updates-there x f w e)) t there DoneUpdate refl)
-        go false q = absurd (omega arith)
+    ready-of (AskingRead x) e n =
+        let h : homeOf rs t < cardsOf cs = rw (← home-is) (home-there rs cs P s z t there) in
+        rw (allowed (holds rs (x .0) (homeOf rs t)) n, home-is, z .show .table= (homeOf rs t) (x .0) h (reads-there x e))
+        (doing-ready rs cs P s z t there (DoneRead (copyOf rs (homeOf rs t) (x .0))) refl)
+    ready-of (AskingUpdate x f w) e n =
+        let h : homeOf rs t < cardsOf cs = rw (← home-is) (home-there rs cs P s z t there) in
+        let u = updates-there x f w e in
+        rw (allowed (alone rs (x .0) (homeOf rs t)) n, home-is, ← (z .show .table= (homeOf rs t) (x .0) h u))
+        (doing-ready (copyUpdated rs (homeOf rs t) (x .0) f w) cs P _ (updated-ready (homeOf rs t) (x .0) f w h u) t there (DoneUpdate (s .table (homeOf rs t) (x .0))) refl)
     ready-of Waiting e n = absurd (omega arith)
     ready-of (DoneRead v) e n = absurd (omega arith)
-    ready-of DoneUpdate e n = absurd (omega arith)
+    ready-of (DoneUpdate v) e n = absurd (omega arith)
 
     refused-of : (d : Doing) → performNumberOf rs t d ≢ 0 → performWordsOf rs t d ≡ rs
     unfolding performNumberOf performWordsOf performReadNumber performReadWords performUpdateNumber performUpdateWords
@@ -119,7 +115,7 @@ module _ (rs cs : List ℕ) (P : Placement) (s : Published) (z : Ready rs cs P s
         go false us q = refl
     refused-of Waiting n = refl
     refused-of (DoneRead v) n = refl
-    refused-of DoneUpdate n = refl
+    refused-of (DoneUpdate v) n = refl
 
     pub perform-follows : StepFollows rs cs P s (outcome (performNumber rs t) (performWords rs t) cs) (good (perform t))
     unfolding performNumber performWords

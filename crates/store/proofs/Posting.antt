@@ -14,7 +14,7 @@ use Rattle.automaton.specs.Refusals.{otherwise}
 use Rattle.channel.specs.Layout.{cardsOf, tasksOf, registersOf}
 use Rattle.channel.proofs.Offered.{cards-most, tasks-most, registers-most, fits-of, fits-packs}
 use Rattle.claims.specs.Refusals.{outboxRoom}
-use Rattle.claims.specs.Published.{Published, post}
+use Rattle.claims.specs.Found.{Found, post}
 use Rattle.tables.specs.Layout.{onlyCard}
 use Rattle.tables.specs.Outbox.{outCountOf, roomy, posted, letterFor}
 use Rattle.tables.proofs.Words.{posted-long}
@@ -41,7 +41,7 @@ just-present j n h =
 pub only-just : (j : ℕ) → j < 8 → onlyCard j ≡ justOf j
 only-just j h = let e : j % 8 ≡ j = omega arith in rw e
 
-module _ (rs cs : List ℕ) (P : Placement) (s : Published) (z : Ready rs cs P s) (i : ℕ) (card : i < cardsOf cs) where
+module _ (rs cs : List ℕ) (P : Placement) (s : Found) (z : Ready rs cs P s) (i : ℕ) (card : i < cardsOf cs) where
   -- one message more fits
   pub room-is : (b : Bool) → roomy rs i ≡ b → outboxRoom (s .out i) ≡ cond b 0 6
   unfolding roomy

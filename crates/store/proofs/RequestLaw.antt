@@ -20,9 +20,9 @@ use Rattle.channel.proofs.Offered.{cards-most, tasks-most, registers-most}
 use Rattle.claims.specs.Command.{request-read, request-update, report}
 use Rattle.claims.specs.Steps.{good}
 use Rattle.claims.specs.Refusals.{requestRefusal, reportRefusal}
-use Rattle.claims.specs.Published.{Published, setStatus, requesting, effect, stage}
-use Rattle.claims.specs.PublishedRun.{valueOf, answerDecoded}
-use Rattle.claims.proofs.Results.{command-small}
+use Rattle.claims.specs.Found.{Found, mail, setStatus, requesting, answered, effect, stage, sight}
+use Rattle.claims.specs.FoundRun.{valueOf, answerDecoded}
+use Rattle.claims.proofs.Results.{refusal-small}
 use Rattle.tables.specs.declared.Doing.{Doing}
 use Rattle.tables.specs.declared.Doing.the-variants.{Quiet, AskingRead, AskingUpdate, Waiting, DoneRead, DoneUpdate}
 use Rattle.tables.specs.Layout.{requestsWord, requestsOf}
@@ -38,7 +38,7 @@ use Rattle.tables.proofs.Showing.{requests-show, doing-show}
 use Rattle.tables.proofs.Sizing.{requests-fit, doing-fit}
 use Rattle.store.proofs.Standing.{Ready, stands, registers-ready, follows}
 
-module _ (rs cs : List ℕ) (P : Placement) (s : Published) (z : Ready rs cs P s) (t : ℕ) (there : t < tasksOf cs) where
+module _ (rs cs : List ℕ) (P : Placement) (s : Found) (z : Ready rs cs P s) (t : ℕ) (there : t < tasksOf cs) where
   -- what task t is doing is d now
   pub doing-ready : (d : Doing) → doingFits cs d ≡ true
       → Ready (doingStored rs t d) cs P (record { requests = s .requests; status = setStatus t (statusOf d) (s .status); table = s .table; out = s .out; channel = s .channel })
@@ -64,7 +64,7 @@ module _ (rs cs : List ℕ) (P : Placement) (s : Published) (z : Ready rs cs P s
       go (AskingUpdate x f w) = refl
       go Waiting = refl
       go (DoneRead v) = refl
-      go DoneUpdate = refl
+      go (DoneUpdate v) = refl
 
   fewer : requestNumber rs t ≡ 0 → requestsOf rs < 65535
   unfolding requestNumber
@@ -119,7 +119,7 @@ module _ (rs cs : List ℕ) (P : Placement) (s : Published) (z : Ready rs cs P s
       go (AskingUpdate x f w) = refl
       go Waiting = refl
       go (DoneRead v) = refl
-      go DoneUpdate = refl
+      go (DoneUpdate v) = refl
 
   report-answer : reportAnswer rs t
       ≡ record { result = reportRefusal (stage P (s .status t)); value = cond (eqb (reportRefusal (stage P (s .status t))) 0) (valueOf (s .status t)) 0 }
@@ -132,7 +132,7 @@ module _ (rs cs : List ℕ) (P : Placement) (s : Published) (z : Ready rs cs P s
       go (AskingUpdate x f w) = refl
       go Waiting = refl
       go (DoneRead v) = refl
-      go DoneUpdate = refl
+      go (DoneUpdate v) = refl
 
   pub report-follows : StepFollows rs cs P s (record { answer = reportAnswer rs t; registers = reportWords rs t; channel = cs }) (good (report t))
   unfolding reportWords statusOf doingFits
@@ -142,7 +142,7 @@ module _ (rs cs : List ℕ) (P : Placement) (s : Published) (z : Ready rs cs P s
       same = report-answer ∙ ap (λ m. record { result = m; value = cond (eqb (reportRefusal (stage P (s .status t))) 0) (valueOf (s .status t)) 0 }) (sym (result-plain (reportRefusal (stage P (s .status t)))))
 
       test : isTaken (reportAnswer rs t .result) ≡ eqb (reportRefusal (stage P (s .status t))) 0
-      test = ap isTaken report-number ∙ taken-small (reportRefusal (stage P (s .status t))) (command-small P s (report t))
+      test = ap isTaken report-number ∙ taken-small (reportRefusal (stage P (s .status t))) (refusal-small P mail (answered P) (sight P s) (report t))
 
       go : (b : Bool) → isTaken (reportAnswer rs t .result) ≡ b → StepFollows rs cs P s (record { answer = reportAnswer rs t; registers = reportWords rs t; channel = cs }) (good (report t))
       go true q = record {

@@ -21,7 +21,7 @@ use Rattle.claims.specs.Command.{send-read, send-update}
 use Rattle.claims.specs.Steps.{good}
 use Rattle.claims.specs.Refusals.{outboxRoom, updateRoom, sendReadRefusal, sendUpdateRefusal}
 use Rattle.claims.specs.Refusals as R
-use Rattle.claims.specs.Published.{Published, sending, sendingRead, sendingUpdate, stage}
+use Rattle.claims.specs.Found.{Found, sending, sendingRead, sendingUpdate, stage}
 use Rattle.tables.specs.declared.Doing.{Doing}
 use Rattle.tables.specs.declared.Doing.the-variants.{Quiet, AskingRead, AskingUpdate, Waiting, DoneRead, DoneUpdate}
 use Rattle.tables.specs.Layout.{homeOf, holdersOf, holds}
@@ -38,7 +38,7 @@ use Rattle.store.proofs.RequestLaw.{doing-ready}
 use Rattle.store.proofs.PerformLaw.{reads-there, updates-there, alone-is}
 use Rattle.store.proofs.Posting.{just-some, just-present, only-just, room-is, post-ready}
 
-module _ (rs cs : List ℕ) (P : Placement) (s : Published) (z : Ready rs cs P s) (t : ℕ) (there : t < tasksOf cs) where
+module _ (rs cs : List ℕ) (P : Placement) (s : Found) (z : Ready rs cs P s) (t : ℕ) (there : t < tasksOf cs) where
   home-is : home P t ≡ homeOf rs t
   home-is = z .show .home= t there
 
@@ -88,7 +88,7 @@ module _ (rs cs : List ℕ) (P : Placement) (s : Published) (z : Ready rs cs P s
     read-number-of (AskingUpdate x f w) e = refl
     read-number-of Waiting e = refl
     read-number-of (DoneRead v) e = refl
-    read-number-of DoneUpdate e = refl
+    read-number-of (DoneUpdate v) e = refl
 
     read-ready-of : (d : Doing) → doingFits cs d ≡ true → readNumberOf rs t j d ≡ 0 → Ready (readWordsOf rs t j d) cs P (sendingRead P s t j (statusOf d))
     unfolding readNumberOf readWordsOf statusOf
@@ -97,7 +97,7 @@ module _ (rs cs : List ℕ) (P : Placement) (s : Published) (z : Ready rs cs P s
     read-ready-of (AskingUpdate x f w) e n = absurd (omega arith)
     read-ready-of Waiting e n = absurd (omega arith)
     read-ready-of (DoneRead v) e n = absurd (omega arith)
-    read-ready-of DoneUpdate e n = absurd (omega arith)
+    read-ready-of (DoneUpdate v) e n = absurd (omega arith)
 
     read-refused-of : (d : Doing) → readNumberOf rs t j d ≢ 0 → readWordsOf rs t j d ≡ rs
     unfolding readNumberOf readWordsOf sendReadWords
@@ -106,7 +106,7 @@ module _ (rs cs : List ℕ) (P : Placement) (s : Published) (z : Ready rs cs P s
     read-refused-of (AskingUpdate x f w) n = refl
     read-refused-of Waiting n = refl
     read-refused-of (DoneRead v) n = refl
-    read-refused-of DoneUpdate n = refl
+    read-refused-of (DoneUpdate v) n = refl
 
     pub send-read-follows : StepFollows rs cs P s (outcome (readSentNumber rs t j) (readSentWords rs t j) cs) (good (send-read t j))
     unfolding readSentNumber readSentWords
@@ -158,7 +158,7 @@ module _ (rs cs : List ℕ) (P : Placement) (s : Published) (z : Ready rs cs P s
   update-number-of (AskingUpdate x f w) e = update-number (x .0) (updates-there rs cs P s z x f w e)
   update-number-of Waiting e = refl
   update-number-of (DoneRead v) e = refl
-  update-number-of DoneUpdate e = refl
+  update-number-of (DoneUpdate v) e = refl
 
   update-ready-of : (d : Doing) → doingFits cs d ≡ true → updateNumberOf rs t d ≡ 0 → Ready (updateWordsOf rs t d) cs P (sendingUpdate P s t (statusOf d))
   unfolding updateNumberOf updateWordsOf statusOf
@@ -167,7 +167,7 @@ module _ (rs cs : List ℕ) (P : Placement) (s : Published) (z : Ready rs cs P s
   update-ready-of (AskingUpdate x f w) e n = update-taken x f w e n
   update-ready-of Waiting e n = absurd (omega arith)
   update-ready-of (DoneRead v) e n = absurd (omega arith)
-  update-ready-of DoneUpdate e n = absurd (omega arith)
+  update-ready-of (DoneUpdate v) e n = absurd (omega arith)
 
   update-refused-of : (d : Doing) → updateNumberOf rs t d ≢ 0 → updateWordsOf rs t d ≡ rs
   unfolding updateNumberOf updateWordsOf sendUpdateWords
@@ -176,7 +176,7 @@ module _ (rs cs : List ℕ) (P : Placement) (s : Published) (z : Ready rs cs P s
   update-refused-of (AskingUpdate x f w) n = rw (ne-eqb (sendUpdateNumber rs t (x .0)) 0 n)
   update-refused-of Waiting n = refl
   update-refused-of (DoneRead v) n = refl
-  update-refused-of DoneUpdate n = refl
+  update-refused-of (DoneUpdate v) n = refl
 
   pub send-update-follows : StepFollows rs cs P s (outcome (updateSentNumber rs t) (updateSentWords rs t) cs) (good (send-update t))
   unfolding updateSentNumber updateSentWords

@@ -7,7 +7,7 @@ use Rattle.names.specs.Placement.{Placement, placement}
 use Rattle.channel.specs.Layout.{cardsOf, tasksOf, registersOf}
 use Rattle.automaton.specs.Renaming.{channel-map}
 use Rattle.channel.proofs.Offered.{shown}
-use Rattle.claims.specs.Published.{Published}
+use Rattle.claims.specs.Found.{Found}
 use Rattle.tables.specs.Layout.{requestsOf, homeOf, holdersOf, primaryOf, copyOf}
 use Rattle.tables.specs.Doings.{doingAt}
 use Rattle.tables.specs.Shows.{statusOf, plain, outboxOf, StoreShows}
@@ -16,7 +16,7 @@ module _ (rs cs : List ℕ) where
   abbrev placementIn : Placement
   placementIn = placement (cardsOf cs) (listing (homeOf rs) (tasksOf cs)) (listing (holdersOf rs) (registersOf cs)) (listing (primaryOf rs) (registersOf cs))
 
-  abbrev stateIn : Published
+  abbrev stateIn : Found
   stateIn = record {
     requests = requestsOf rs;
     status = λ c. statusOf (doingAt rs c);
@@ -25,7 +25,7 @@ module _ (rs cs : List ℕ) where
     channel = channel-map plain (shown cs .0);
   }
 
-  pub some-state : (P : Placement) × (s : Published) × StoreShows rs cs P s
+  pub some-state : (P : Placement) × (s : Found) × StoreShows rs cs P s
   some-state = (
     placementIn,
     stateIn,

@@ -16,10 +16,10 @@ use Rattle.channel.specs.Layout.{channelWords, cardsOf, tasksOf, registersOf}
 use Rattle.channel.specs.Sized.{wellSized}
 use Rattle.claims.specs.Command.{Command}
 use Rattle.claims.specs.Steps.{good}
-use Rattle.claims.specs.Published.{Published, mail, answered, effect, sight, commandRefusal}
-use Rattle.claims.specs.PublishedRun.{valueAt, commandResult}
+use Rattle.claims.specs.Found.{Found, mail, answered, effect, sight, commandRefusal}
+use Rattle.claims.specs.FoundRun.{valueAt, commandResult}
 use Rattle.claims.specs.Results.{holding}
-use Rattle.claims.proofs.Results.{taken-result, command-small}
+use Rattle.claims.proofs.Results.{taken-result, refusal-small}
 use Rattle.tables.specs.Layout.{holds}
 use Rattle.tables.specs.Outbox.{outCountOf}
 use Rattle.tables.specs.Sized.{registersSized, storeSized}
@@ -29,7 +29,7 @@ use Rattle.store.specs.Demand2.{Stands, StepFollows}
 use Rattle.tables.proofs.Sizing.{RegistersFit, fit-of, of-fit}
 
 -- the two memories, part by part
-pub record Ready (rs cs : List ℕ) (P : Placement) (s : Published) : Type 0 where
+pub record Ready (rs cs : List ℕ) (P : Placement) (s : Found) : Type 0 where
   pub long : length rs ≡ 593
   pub channel-long : length cs ≡ channelWords
   pub fit : RegistersFit rs cs
@@ -40,7 +40,7 @@ pub record Ready (rs cs : List ℕ) (P : Placement) (s : Published) : Type 0 whe
   pub show : RegistersShow rs (cardsOf cs) (tasksOf cs) (registersOf cs) P s
   pub channel-shows : ChannelShows cs (s .channel)
 
-pub ready : (rs cs : List ℕ) (P : Placement) (s : Published) → Stands rs cs P s → Ready rs cs P s
+pub ready : (rs cs : List ℕ) (P : Placement) (s : Found) → Stands rs cs P s → Ready rs cs P s
 unfolding storeSized
 ready rs cs P s z = record {
   long = z .long;
@@ -54,7 +54,7 @@ ready rs cs P s z = record {
   channel-shows = z .shows .channel-shows;
 }
 
-pub stands : (rs cs : List ℕ) (P : Placement) (s : Published) → Ready rs cs P s → Stands rs cs P s
+pub stands : (rs cs : List ℕ) (P : Placement) (s : Found) → Ready rs cs P s → Stands rs cs P s
 unfolding storeSized
 stands rs cs P s z = record {
   long = z .long;
@@ -64,12 +64,12 @@ stands rs cs P s z = record {
 }
 
 -- messages in an outbox
-pub count-is : (rs : List ℕ) (c t r : ℕ) (P : Placement) (s : Published) → RegistersShow rs c t r P s → (i : ℕ) → i < c → length (s .out i) ≡ outCountOf rs i
+pub count-is : (rs : List ℕ) (c t r : ℕ) (P : Placement) (s : Found) → RegistersShow rs c t r P s → (i : ℕ) → i < c → length (s .out i) ≡ outCountOf rs i
 unfolding outboxOf
 count-is rs c t r P s v i h = rw (v .out= i h) (listing-length _ (outCountOf rs i))
 
 -- facts of well-sized memories
-module _ (rs cs : List ℕ) (P : Placement) (s : Published) (z : Ready rs cs P s) where
+module _ (rs cs : List ℕ) (P : Placement) (s : Found) (z : Ready rs cs P s) where
   -- a home is present
   pub home-there : (t : ℕ) → t < tasksOf cs → home P t < cardsOf cs
   home-there t h = rw (z .show .home= t h) (z .fit .home t h)
@@ -80,7 +80,7 @@ module _ (rs cs : List ℕ) (P : Placement) (s : Published) (z : Ready rs cs P s
   holds-is x i h g = rw (z .cards=, lt-ltb i (cardsOf cs) g, z .show .holders= x h)
 
   -- the same channel
-  pub registers-ready : (us : List ℕ) (u : Published) → length us ≡ 593 → RegistersFit us cs
+  pub registers-ready : (us : List ℕ) (u : Found) → length us ≡ 593 → RegistersFit us cs
       → RegistersShow us (cardsOf cs) (tasksOf cs) (registersOf cs) P u → u .channel ≡ s .channel → Ready us cs P u
   registers-ready us u l f v e = record {
     long = l;
@@ -129,4 +129,4 @@ module _ (rs cs : List ℕ) (P : Placement) (s : Published) (z : Ready rs cs P s
       → (n ≡ 0 → Ready us ds P (effect P s c)) → (n ≢ 0 → (us ≡ rs) × (ds ≡ cs)) → StepFollows rs cs P s (outcome n us ds) (good c)
   follows n us ds c v e f g =
       follows-any n us ds c (v .0) (e ∙ sym (result-plain (commandRefusal P s c)) ∙ ap (resultFrom (commandRefusal P s c)) (sym (v .1)))
-      (λ t. f (eqb-true n 0 (sym (taken-small n (rw e (command-small P s c))) ∙ t))) (λ t. g (refused-not-zero n t))
+      (λ t. f (eqb-true n 0 (sym (taken-small n (rw e (refusal-small P mail (answered P) (sight P s) c))) ∙ t))) (λ t. g (refused-not-zero n t))

@@ -15,7 +15,7 @@ use Rattle.automaton.specs.State.{initialChannel}
 use Rattle.channel.specs.Layout.{cardsOf, tasksOf, registersOf}
 use Rattle.channel.specs.Begin.{beginMemory}
 use Rattle.channel.proofs.Offered.{begin-follows, begun-sized, begun-length}
-use Rattle.claims.specs.Published.{begin}
+use Rattle.claims.specs.Found.{begin}
 use Rattle.tables.specs.Layout.{taskWord, registerWord, copyWord, outHeadWord, outCountWord, homeIn, homeOf, holdersIn, holdersOf, primaryIn, primaryOf}
 use Rattle.tables.specs.Doings.{doingOf, doingKindIn, doingIn, doingAt}
 use Rattle.tables.specs.declared.Doing.the-variants.{Quiet}

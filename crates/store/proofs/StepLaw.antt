@@ -8,7 +8,7 @@ use Rattle.lists.specs.Tests.{and-intro}
 use Rattle.names.specs.Placement.{Placement}
 use Rattle.channel.specs.Layout.{cardsOf, tasksOf, registersOf}
 use Rattle.claims.specs.Steps.{RawStep, decode}
-use Rattle.claims.specs.Published.{Published}
+use Rattle.claims.specs.Found.{Found}
 use Rattle.commands.specs.declared.Command.the-variants.{RequestRead, RequestUpdate, Perform, SendRead, SendUpdate, Dispatch, TakeBroadcast, TakeSingle, Deliver, Report, Refused}
 use Rattle.commands.specs.declared.Command.{Command}
 use Rattle.commands.specs.Decode.{decodeOf}
@@ -23,7 +23,7 @@ use Rattle.store.proofs.TrafficLaw.{dispatch-follows, take-broadcast-fo
 use Rattle.store.proofs.DeliverLaw.{deliver-follows}
 use Rattle.commands.proofs.DecodeLaw.{commandShown, InRange, decode-is, decode-range}
 
-module _ (rs cs : List ℕ) (P : Placement) (s : Published) (z : Ready rs cs P s) where
+module _ (rs cs : List ℕ) (P : Placement) (s : Found) (z : Ready rs cs P s) where
   -- a decoded step
   taken-follows : (d : Command) → InRange (cardsOf cs) (registersOf cs) (tasksOf cs) d → StepFollows rs cs P s (taken rs cs d) (commandShown d)
   unfolding taken doingFits
@@ -51,7 +51,7 @@ module _ (rs cs : List ℕ) (P : Placement) (s : Published) (z : Ready rs cs P s
       same : commandShown d ≡ decode P a
       same = rw (← z .cards=, ← z .registers=, ← z .tasks=) (decode-is P (a .argument) (a .code))
 
-pub step-follows : (rs cs : List ℕ) (P : Placement) (s : Published) → Stands rs cs P s → (a : RawStep)
+pub step-follows : (rs cs : List ℕ) (P : Placement) (s : Found) → Stands rs cs P s → (a : RawStep)
     → StepFollows rs cs P s (stepped rs cs (a .code) (a .argument)) (decode P a)
 unfolding stepped
 step-follows rs cs P s z a = rw (z .sized) (advance-follows rs cs P s (ready rs cs P s z) a)

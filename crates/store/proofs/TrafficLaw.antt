@@ -29,8 +29,8 @@ use Rattle.channel.proofs.Offered.{cards-most, tasks-most, registers-most, same
 use Rattle.channel.proofs.OfferedCalls.{dispatch-passes, take-broadcast-passes, take-single-passes, dispatch-result, take-broadcast-result, take-single-result}
 use Rattle.claims.specs.Command as Step
 use Rattle.claims.specs.Steps.{good}
-use Rattle.claims.specs.Published.{Published, mail, withChannel, dispatching}
-use Rattle.claims.specs.Published as Pub
+use Rattle.claims.specs.Found.{Found, mail, withChannel, dispatching}
+use Rattle.claims.specs.Found as F
 use Rattle.tables.specs.declared.Doing.{Doing}
 use Rattle.tables.specs.declared.Doing.the-variants.{Quiet, AskingRead, AskingUpdate, Waiting, DoneRead, DoneUpdate}
 use Rattle.tables.specs.Doings.{doingAt}
@@ -55,7 +55,7 @@ doing-same ds cs e (AskingRead x) = rw (same-registers ds cs e)
 doing-same ds cs e (AskingUpdate x f w) = rw (same-registers ds cs e)
 doing-same ds cs e Waiting = refl
 doing-same ds cs e (DoneRead v) = refl
-doing-same ds cs e DoneUpdate = refl
+doing-same ds cs e (DoneUpdate v) = refl
 
 out-same : (rs ds cs : List ℕ) → SameSizes ds cs → (i k : ℕ) → outFits rs ds i k ≡ outFits rs cs i k
 unfolding outFits
@@ -79,7 +79,7 @@ fit-sizes rs ds cs e f =
     }
 
 -- memories whose channel is another of the same sizes
-pub channel-ready : (rs us cs ds : List ℕ) (P : Placement) (s u : Published) → Ready rs cs P s → length us ≡ 593 → RegistersFit us cs
+pub channel-ready : (rs us cs ds : List ℕ) (P : Placement) (s u : Found) → Ready rs cs P s → length us ≡ 593 → RegistersFit us cs
     → RegistersShow us (cardsOf cs) (tasksOf cs) (registersOf cs) P u
     → wellSized ds ≡ true → length ds ≡ channelWords → SameSizes ds cs → ChannelShows ds (u .channel) → Ready us ds P u
 channel-ready rs us cs ds P s u z l f v ok dl e w =
@@ -98,9 +98,9 @@ channel-ready rs us cs ds P s u z l f v ok dl e w =
       channel-shows = w;
     }
 
-module _ (rs cs : List ℕ) (P : Placement) (s : Published) (z : Ready rs cs P s) where
+module _ (rs cs : List ℕ) (P : Placement) (s : Found) (z : Ready rs cs P s) where
   -- the registers as they were, and a channel's call taken
-  called-ready : (x : ChannelAction Pub.Letter) (n : ℕ) (ds : List ℕ) → Goes cs (s .channel) x n ds → (w : ChannelState Pub.Letter) → ChannelShows ds w
+  called-ready : (x : ChannelAction F.Letter) (n : ℕ) (ds : List ℕ) → Goes cs (s .channel) x n ds → (w : ChannelState F.Letter) → ChannelShows ds w
       → Ready rs ds P (withChannel s w)
   called-ready x n ds k w v =
       channel-ready rs rs cs ds P s (withChannel s w) z (z .long) (z .fit)

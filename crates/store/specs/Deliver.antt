@@ -23,10 +23,11 @@ use Rattle.store.specs.Perform.{copyUpdated}
 unfoldable pub replied : List ℕ → ℕ → ℕ → ℕ → Body → List ℕ
 replied ws i t x b = posted ws i (letterFor t x b (onlyCard (homeOf ws t)))
 
--- "val(x) := f(val(x))" and "if j = i then status(c) := (update-report, ξ, x)": applied; the task is done if its home is card i
+-- "val(x) := f(val(x))" and "if j = i then status(c) := (update-report, ξ, x)": applied; the task is done if its home is card i, with the value
+-- that the copy had just before
 unfoldable pub applied : List ℕ → ℕ → ℕ → ℕ → ℕ → ℕ → List ℕ
 applied ws i t x f w =
-    cond (eqb i (homeOf ws t)) (doingStored (copyUpdated ws i x f w) t DoneUpdate) (copyUpdated ws i x f w)
+    cond (eqb i (homeOf ws t)) (doingStored (copyUpdated ws i x f w) t (DoneUpdate (copyOf ws i x))) (copyUpdated ws i x f w)
 
 -- card i is the primary
 abbrev pub isPrimary : ℕ → ℕ → Bool
@@ -41,20 +42,20 @@ unfoldable pub bodyNumber : List ℕ → ℕ → ℕ → ℕ → Body → ℕ
 bodyNumber ws i t x ReadDo = cond (roomy ws i) 0 6
 bodyNumber ws i t x (ReadReply v) = 0
 bodyNumber ws i t x (UpdateDo f w) = cond (repliesHere ws i t x) (cond (roomy ws i) 0 6) 0
-bodyNumber ws i t x UpdateReply = 0
+bodyNumber ws i t x (UpdateReply v) = 0
 
 unfoldable pub bodyWords : List ℕ → ℕ → ℕ → ℕ → Body → List ℕ
 -- receive((read-do, c, ξ, x), j)_i
 bodyWords ws i t x ReadDo = cond (roomy ws i) (replied ws i t x (ReadReply (copyOf ws i x))) ws
 -- receive((read-reply, c, ξ, x, v), j)_i
 bodyWords ws i t x (ReadReply v) = doingStored ws t (DoneRead v)
--- receive((update-do, c, ξ, x, f), j)_i
+-- receive((update-do, c, ξ, x, f), j)_i; the reply has the value that the copy had just before
 bodyWords ws i t x (UpdateDo f w) =
     cond (repliesHere ws i t x)
-    (cond (roomy ws i) (replied (applied ws i t x f w) i t x UpdateReply) ws)
+    (cond (roomy ws i) (replied (applied ws i t x f w) i t x (UpdateReply (copyOf ws i x))) ws)
     (applied ws i t x f w)
--- receive((update-reply, c, ξ, x), j)_i
-bodyWords ws i t x UpdateReply = doingStored ws t DoneUpdate
+-- receive((update-reply, c, ξ, x), j)_i, with the value found
+bodyWords ws i t x (UpdateReply v) = doingStored ws t (DoneUpdate v)
 
 -- a message takes effect
 abbrev pub messageNumber : List ℕ → ℕ → Message → ℕ

@@ -7,8 +7,8 @@ use lib.ListN.{length, replicate}
 use Rattle.names.specs.Placement.{Placement}
 use Rattle.claims.specs.Steps.{RawStep}
 use Rattle.claims.specs.NamedRuns.{step, set}
-use Rattle.claims.specs.Published.{begin}
-use Rattle.claims.specs.PublishedRun.{finalFrom}
+use Rattle.claims.specs.Found.{begin}
+use Rattle.claims.specs.FoundRun.{finalFrom}
 use Rattle.store.specs.Demand2.{Stands}
 use Rattle.store.specs.Run.{Store, started, storeAfter, answersOf}
 
@@ -78,7 +78,7 @@ abbrev pub thenRefused : ℕ → ℕ → List ℕ
 thenRefused n r = replicate n 0 ++ (r ∷ [])
 
 pub record LimitsMet : Type 0 where
-  -- what the store shows after a run is the published state
+  -- what the store shows after a run is the state of its algorithm
   pub shows : (m : Store) (l : List RawStep)
       → Stands (storeAfter (started crowd m) l .registers) (storeAfter (started crowd m) l .channel) crowd (finalFrom crowd begin l)
   pub outbox : length (finalFrom crowd begin outbox-run .out 0) ≡ 16

@@ -28,9 +28,10 @@ performUpdateNumber ws t x = cond (alone ws x (homeOf ws t)) 0 22
 unfoldable pub copyUpdated : List ℕ → ℕ → ℕ → ℕ → ℕ → List ℕ
 copyUpdated ws i x f w = set ws (copyWord i x) (updated f w (copyOf ws i x))
 
+-- the task is done with the value that its home's copy had just before
 unfoldable pub performUpdateWords : List ℕ → ℕ → ℕ → ℕ → ℕ → List ℕ
 performUpdateWords ws t x f w =
-    cond (alone ws x (homeOf ws t)) (doingStored (copyUpdated ws (homeOf ws t) x f w) t DoneUpdate) ws
+    cond (alone ws x (homeOf ws t)) (doingStored (copyUpdated ws (homeOf ws t) x f w) t (DoneUpdate (copyOf ws (homeOf ws t) x))) ws
 
 -- 21: the task does not ask
 unfoldable pub performNumberOf : List ℕ → ℕ → Doing → ℕ
@@ -39,7 +40,7 @@ performNumberOf ws t (AskingRead x) = performReadNumber ws t (x .0)
 performNumberOf ws t (AskingUpdate x f w) = performUpdateNumber ws t (x .0)
 performNumberOf ws t Waiting = 21
 performNumberOf ws t (DoneRead v) = 21
-performNumberOf ws t DoneUpdate = 21
+performNumberOf ws t (DoneUpdate v) = 21
 
 unfoldable pub performWordsOf : List ℕ → ℕ → Doing → List ℕ
 performWordsOf ws t Quiet = ws
@@ -47,7 +48,7 @@ performWordsOf ws t (AskingRead x) = performReadWords ws t (x .0)
 performWordsOf ws t (AskingUpdate x f w) = performUpdateWords ws t (x .0) f w
 performWordsOf ws t Waiting = ws
 performWordsOf ws t (DoneRead v) = ws
-performWordsOf ws t DoneUpdate = ws
+performWordsOf ws t (DoneUpdate v) = ws
 
 unfoldable pub performNumber : List ℕ → ℕ → ℕ
 performNumber ws t = performNumberOf ws t (doingAt ws t)

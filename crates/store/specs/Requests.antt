@@ -15,13 +15,17 @@ use Rattle.tables.specs.Doings.{doingAt, doingStored}
 abbrev pub bare : ℕ → Answer
 bare n = record { result = n; value = 0 }
 
+-- the answer to a taken report
+abbrev pub told : ℕ → Answer
+told v = record { result = 0; value = v }
+
 unfoldable pub isQuiet : Doing → Bool
 isQuiet Quiet = true
 isQuiet (AskingRead x) = false
 isQuiet (AskingUpdate x f w) = false
 isQuiet Waiting = false
 isQuiet (DoneRead v) = false
-isQuiet DoneUpdate = false
+isQuiet (DoneUpdate v) = false
 
 -- 20: the task is not quiet; 23: 65,535 requests were taken before (RULES 7.8)
 unfoldable pub requestNumber : List ℕ → ℕ → ℕ
@@ -31,14 +35,14 @@ requestNumber ws t = cond (isQuiet (doingAt ws t)) (cond (ltb (requestsOf ws) 65
 unfoldable pub requestWords : List ℕ → ℕ → Doing → List ℕ
 requestWords ws t d = cond (eqb (requestNumber ws t) 0) (set (doingStored ws t d) requestsWord (requestsOf ws + 1)) ws
 
--- 21: the task is not done; the value read for a report of a read, else 0 (RULES 4.3)
+-- 21: the task is not done; the value read or found for a report, else 0 (RULES 4.3)
 unfoldable pub reportOf : Doing → Answer
 reportOf Quiet = bare 21
 reportOf (AskingRead x) = bare 21
 reportOf (AskingUpdate x f w) = bare 21
 reportOf Waiting = bare 21
-reportOf (DoneRead v) = record { result = 0; value = v }
-reportOf DoneUpdate = bare 0
+reportOf (DoneRead v) = told v
+reportOf (DoneUpdate v) = told v
 
 unfoldable pub reportAnswer : List ℕ → ℕ → Answer
 reportAnswer ws t = reportOf (doingAt ws t)

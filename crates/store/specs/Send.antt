@@ -38,7 +38,7 @@ readNumberOf ws t j (AskingRead x) = sendReadNumber ws t j (x .0)
 readNumberOf ws t j (AskingUpdate x f w) = 21
 readNumberOf ws t j Waiting = 21
 readNumberOf ws t j (DoneRead v) = 21
-readNumberOf ws t j DoneUpdate = 21
+readNumberOf ws t j (DoneUpdate v) = 21
 
 unfoldable pub readWordsOf : List ℕ → ℕ → ℕ → Doing → List ℕ
 readWordsOf ws t j Quiet = ws
@@ -46,7 +46,7 @@ readWordsOf ws t j (AskingRead x) = sendReadWords ws t j (x .0)
 readWordsOf ws t j (AskingUpdate x f w) = ws
 readWordsOf ws t j Waiting = ws
 readWordsOf ws t j (DoneRead v) = ws
-readWordsOf ws t j DoneUpdate = ws
+readWordsOf ws t j (DoneUpdate v) = ws
 
 unfoldable pub updateNumberOf : List ℕ → ℕ → Doing → ℕ
 updateNumberOf ws t Quiet = 21
@@ -54,7 +54,7 @@ updateNumberOf ws t (AskingRead x) = 21
 updateNumberOf ws t (AskingUpdate x f w) = sendUpdateNumber ws t (x .0)
 updateNumberOf ws t Waiting = 21
 updateNumberOf ws t (DoneRead v) = 21
-updateNumberOf ws t DoneUpdate = 21
+updateNumberOf ws t (DoneUpdate v) = 21
 
 unfoldable pub updateWordsOf : List ℕ → ℕ → Doing → List ℕ
 updateWordsOf ws t Quiet = ws
@@ -62,7 +62,7 @@ updateWordsOf ws t (AskingRead x) = ws
 updateWordsOf ws t (AskingUpdate x f w) = sendUpdateWords ws t (x .0) f w
 updateWordsOf ws t Waiting = ws
 updateWordsOf ws t (DoneRead v) = ws
-updateWordsOf ws t DoneUpdate = ws
+updateWordsOf ws t (DoneUpdate v) = ws
 
 unfoldable pub readSentNumber : List ℕ → ℕ → ℕ → ℕ
 readSentNumber ws t j = readNumberOf ws t j (doingAt ws t)

@@ -9,7 +9,7 @@ use Rattle.lists.specs.Histories.{In}
 use Rattle.names.specs.declared.Answer.{Answer}
 use Rattle.names.specs.Placement.{Placement, placementRefusal}
 use Rattle.claims.specs.Steps.{RawStep}
-use Rattle.claims.specs.Published.{begin}
+use Rattle.claims.specs.Found.{begin}
 use Rattle.tables.specs.Sized.{storeSized}
 use Rattle.store.specs.Demand2.{Stands}
 use Rattle.store.specs.Run.{Store, started, storeAfter, answersOf, answer, advanceAll, answersAdvancing}

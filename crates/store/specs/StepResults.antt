@@ -1,5 +1,5 @@
 -- What a result says, and when each comes (RULES 8.2, 8.5): the store's answers in the terms of claims/specs/Allowed and Numbers, from every
--- well-sized pair of memories that shows a state.
+-- well-sized pair of memories that shows a state. The values found are left out of it (forget).
 use Prim.Native.Nat.{ℕ}
 use mathlib.Core.Path.{_≡_}
 use mathlib.Core.Logic.{_⊎_, _↔_}
@@ -9,7 +9,8 @@ use Rattle.names.specs.Placement.{Placement}
 use Rattle.names.specs.Results.{isTaken}
 use Rattle.claims.specs.Command.{Command}
 use Rattle.claims.specs.Steps.{RawStep, good, decode}
-use Rattle.claims.specs.Published.{Published}
+use Rattle.claims.specs.Found.{Found}
+use Rattle.claims.specs.ForgetFound.{forget}
 use Rattle.claims.specs.Held.{Eight, Holds, LetsJoin}
 use Rattle.claims.specs.Allowed.{allowed, within}
 use Rattle.claims.specs.Numbers.{Misformed, Comes}
@@ -23,16 +24,16 @@ resultOf rs cs a = stepped rs cs (a .code) (a .argument) .answer .result
 
 pub record StepResults : Type 0 where
   -- taken, with 0 or 100, exactly if the step decodes to a command that the algorithm allows within the limits
-  pub taken : (rs cs : List ℕ) (P : Placement) (s : Published) → Stands rs cs P s → (a : RawStep)
-      → (isTaken (resultOf rs cs a) ≡ true) ↔ ((c : Command) × (decode P a ≡ good c) × (allowed P s c ≡ true) × (within P s c ≡ true))
+  pub taken : (rs cs : List ℕ) (P : Placement) (s : Found) → Stands rs cs P s → (a : RawStep)
+      → (isTaken (resultOf rs cs a) ≡ true) ↔ ((c : Command) × (decode P a ≡ good c) × (allowed P (forget s) c ≡ true) × (within P (forget s) c ≡ true))
   -- 100 exactly if the step is an 8 whose message the published move puts into ppwait of its destination (RULES 5.8)
-  pub held : (rs cs : List ℕ) (P : Placement) (s : Published) → Stands rs cs P s → (a : RawStep)
-      → (resultOf rs cs a ≡ 100) ↔ Holds P s a
+  pub held : (rs cs : List ℕ) (P : Placement) (s : Found) → Stands rs cs P s → (a : RawStep)
+      → (resultOf rs cs a ≡ 100) ↔ Holds P (forget s) a
   -- an 8 answers 0 exactly if its message joins the inbox there
-  pub joins : (rs cs : List ℕ) (P : Placement) (s : Published) → Stands rs cs P s → (a : RawStep) (t : ℕ) → Eight P a t
-      → (resultOf rs cs a ≡ 0) ↔ LetsJoin P s a
+  pub joins : (rs cs : List ℕ) (P : Placement) (s : Found) → Stands rs cs P s → (a : RawStep) (t : ℕ) → Eight P a t
+      → (resultOf rs cs a ≡ 0) ↔ LetsJoin P (forget s) a
   -- another number exactly if the step is misformed so, or decodes to a command for which that number comes
-  pub refused : (rs cs : List ℕ) (P : Placement) (s : Published) → Stands rs cs P s → (a : RawStep) (n : ℕ) → isTaken n ≡ false
-      → (resultOf rs cs a ≡ n) ↔ (Misformed P a n ⊎ ((c : Command) × (decode P a ≡ good c) × Comes P s n c))
+  pub refused : (rs cs : List ℕ) (P : Placement) (s : Found) → Stands rs cs P s → (a : RawStep) (n : ℕ) → isTaken n ≡ false
+      → (resultOf rs cs a ≡ n) ↔ (Misformed P a n ⊎ ((c : Command) × (decode P a ≡ good c) × Comes P (forget s) n c))
   -- a step that does not check the state first is the same step, on every well-sized pair (RULES 11.10)
   pub unchecked : (rs cs : List ℕ) → storeSized rs cs ≡ true → (a : RawStep) → advanced rs cs (a .code) (a .argument) ≡ stepped rs cs (a .code) (a .argument)

@@ -1,6 +1,6 @@
 // Steps 1, 2 and 10: a task asks, and a done task reports.
 ghost use mathlib.Core.Path.{_≡_};
-ghost use Rattle.store.specs.Requests.{bare, requestNumber, requestWords, reportOf, reportAnswer, reportWords};
+ghost use Rattle.store.specs.Requests.{bare, told, requestNumber, requestWords, reportOf, reportAnswer, reportWords};
 use names::Answer;
 use names::Task;
 use tables::Doing;
@@ -16,6 +16,16 @@ pub(crate) fn bare(number: u8) -> Answer
     Answer {
         result: number,
         value: 0,
+    }
+}
+
+// The answer to a taken report, with the value read or found.
+fn told(value: u32) -> Answer
+    ensures { λ r. ⌜ r ≡ told value ⌝ }
+{
+    Answer {
+        result: 0,
+        value: value,
     }
 }
 
@@ -45,11 +55,8 @@ fn report_of(doing: Doing) -> Answer
         Doing::AskingRead(_) => bare(21),
         Doing::AskingUpdate(_, _, _) => bare(21),
         Doing::Waiting => bare(21),
-        Doing::DoneRead(v) => Answer {
-            result: 0,
-            value: v,
-        },
-        Doing::DoneUpdate => bare(0),
+        Doing::DoneRead(v) => told(v),
+        Doing::DoneUpdate(v) => told(v),
     }
 }
 

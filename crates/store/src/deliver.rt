@@ -2,6 +2,7 @@
 // update. The figure's i is the card, c the message's task; j, the sender of a do message, to whom a reply goes, is that task's home.
 ghost use mathlib.Core.Path.{_≡_};
 ghost use Rattle.names.specs.declared.Body.the-variants.{ReadDo, UpdateDo};
+ghost use Rattle.tables.specs.Layout.{copyOf};
 ghost use Rattle.store.specs.Deliver.{replied, applied, repliesHere, bodyNumber, bodyWords, messageNumber, messageWords, foundNumber, foundWords, deliverNumber, deliverRegisters, deliverChannel};
 use super::perform::update_copy;
 use super::send::letter_for;
@@ -83,9 +84,9 @@ fn deliver_body(
         }
         // receive((update-do, c, ξ, x, f), j)_i
         Body::UpdateDo(f, w) => deliver_update(registers, card, task, register, f, w),
-        // receive((update-reply, c, ξ, x), j)_i: "status(c) := (update-report, ξ, x)"
-        Body::UpdateReply => {
-            store(registers, task, Doing::DoneUpdate);
+        // receive((update-reply, c, ξ, x), j)_i: "status(c) := (update-report, ξ, x)", and the value found
+        Body::UpdateReply(v) => {
+            store(registers, task, Doing::DoneUpdate(v));
             0
         }
     }
@@ -132,12 +133,13 @@ fn deliver_update(
     if !roomy(registers, card) {
         return 6;
     }
-    apply(registers, card, task, register, function, operand);
-    reply(registers, card, task, register, Body::UpdateReply);
+    let found = apply(registers, card, task, register, function, operand);
+    reply(registers, card, task, register, Body::UpdateReply(found));
     0
 }
 
-// "val(x) := f(val(x))" and "if j = i then status(c) := (update-report, ξ, x)": applied on a card; done, if this is the task's home.
+// "val(x) := f(val(x))" and "if j = i then status(c) := (update-report, ξ, x)": applied on a card; done, if this is the task's home. Gives the
+// value found.
 fn apply(
     registers: &mut [u32; 593],
     card: Card,
@@ -145,12 +147,14 @@ fn apply(
     register: Register,
     function: u32,
     operand: u32,
-)
-    ensures { λ _. ⌜ now (registers .exit) ≡ applied (now (registers .entry)) (card .0) (task .0) (register .0) function operand ⌝ }
+) -> u32
+    ensures registers { λ _. ⌜ now (registers .exit) ≡ applied (now (registers .entry)) (card .0) (task .0) (register .0) function operand ⌝ }
+    ensures found { λ r. ⌜ r ≡ copyOf (now (registers .entry)) (card .0) (register .0) ⌝ }
 {
     let here = home(registers, task);
-    update_copy(registers, card, register, function, operand);
-    end_update(registers, task, card.0 == here.0);
+    let found = update_copy(registers, card, register, function, operand);
+    end_update(registers, task, card.0 == here.0, found);
+    found
 }
 
 // "if j ∉ sites(x) and i = primary(x)": whether a card owes the reply to an update. Both tests are made: which of them fails is not foreseen.

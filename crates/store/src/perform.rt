@@ -1,5 +1,6 @@
 // Step 3: a task performs its request on its own card.
 ghost use mathlib.Core.Path.{_≡_};
+ghost use Rattle.tables.specs.Layout.{copyOf};
 ghost use Rattle.store.specs.Perform.{alone, performReadNumber, performReadWords, performUpdateNumber, performUpdateWords, copyUpdated, performNumberOf, performWordsOf, performNumber, performWords};
 use names::Card;
 use names::Register;
@@ -38,19 +39,22 @@ fn perform_read(registers: &mut [u32; 593], task: Task, register: Register) -> u
     0
 }
 
-// A card's copy of a register is updated.
+// A card's copy of a register is updated; what it had just before is the value that the update found.
 pub(crate) fn update_copy(
     registers: &mut [u32; 593],
     card: Card,
     register: Register,
     function: u32,
     operand: u32,
-)
-    ensures { λ _. ⌜ now (registers .exit) ≡ copyUpdated (now (registers .entry)) (card .0) (register .0) function operand ⌝ }
+) -> u32
+    ensures registers { λ _. ⌜ now (registers .exit) ≡ copyUpdated (now (registers .entry)) (card .0) (register .0) function operand ⌝ }
+    ensures found { λ r. ⌜ r ≡ copyOf (now (registers .entry)) (card .0) (register .0) ⌝ }
 {
     let at = COPIES + card_place(card) * 32 + register_place(register);
-    let value = registers[at];
-    registers[at] = names::update(function, operand, value);
+    let found = registers[at];
+    let next = names::update(function, operand, found);
+    registers[at] = next;
+    found
 }
 
 fn perform_update(
@@ -67,8 +71,8 @@ fn perform_update(
     if !alone(registers, register, here) {
         return 22;
     }
-    update_copy(registers, here, register, function, operand);
-    store(registers, task, Doing::DoneUpdate);
+    let found = update_copy(registers, here, register, function, operand);
+    store(registers, task, Doing::DoneUpdate(found));
     0
 }
 
@@ -82,7 +86,7 @@ fn perform_doing(registers: &mut [u32; 593], task: Task, doing: Doing) -> u8
         Doing::AskingUpdate(x, f, w) => perform_update(registers, task, x, f, w),
         Doing::Waiting => 21,
         Doing::DoneRead(_) => 21,
-        Doing::DoneUpdate => 21,
+        Doing::DoneUpdate(_) => 21,
     }
 }
 

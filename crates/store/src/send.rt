@@ -125,7 +125,7 @@ fn send_read_doing(registers: &mut [u32; 593], task: Task, chosen: Card, doing: 
         Doing::AskingUpdate(_, _, _) => 21,
         Doing::Waiting => 21,
         Doing::DoneRead(_) => 21,
-        Doing::DoneUpdate => 21,
+        Doing::DoneUpdate(_) => 21,
     }
 }
 
@@ -139,7 +139,7 @@ fn send_update_doing(registers: &mut [u32; 593], task: Task, doing: Doing) -> u8
         Doing::AskingUpdate(x, f, w) => send_update_of(registers, task, x, f, w),
         Doing::Waiting => 21,
         Doing::DoneRead(_) => 21,
-        Doing::DoneUpdate => 21,
+        Doing::DoneUpdate(_) => 21,
     }
 }
 

@@ -35,13 +35,13 @@ doing-packs cs (AskingUpdate x f w) e =
     record { register = omega (arith, registers-most cs); function = omega arith }
 doing-packs cs Waiting e = record { register = omega arith; function = omega arith }
 doing-packs cs (DoneRead v) e = record { register = omega arith; function = omega arith }
-doing-packs cs DoneUpdate e = record { register = omega arith; function = omega arith }
+doing-packs cs (DoneUpdate v) e = record { register = omega arith; function = omega arith }
 
 pub asked-fits : (cs : List ℕ) (k x f v : ℕ) → askedFits (limitsOf cs) k x f ≡ doingFits cs (doingOf k (record { 0 = x }) f v)
 unfolding askedFits functionFits doingOf doingFits
 asked-fits cs k x f v = rw (limits-are cs) (go (ℕ-discrete k 1) (ℕ-discrete k 2))
   where
-    others : (a b c : Bool) → true ≡ doingFits cs (cond a Quiet (cond b Waiting (cond c (DoneRead v) DoneUpdate)))
+    others : (a b c : Bool) → true ≡ doingFits cs (cond a Quiet (cond b Waiting (cond c (DoneRead v) (DoneUpdate v))))
     others true b c = refl
     others false true c = refl
     others false false true = refl
@@ -50,7 +50,7 @@ asked-fits cs k x f v = rw (limits-are cs) (go (ℕ-discrete k 1) (ℕ-discrete 
     go : Dec (k ≡ 1) → Dec (k ≡ 2)
         → ((not (eqb k 1 || eqb k 2) || ltb x (registersOf cs)) && (not (eqb k 2) || knownFunction f))
         ≡ doingFits cs (cond (eqb k 0) Quiet (cond (eqb k 1) (AskingRead (record { 0 = x })) (cond (eqb k 2) (AskingUpdate (record { 0 = x }) f v)
-        (cond (eqb k 3) Waiting (cond (eqb k 4) (DoneRead v) DoneUpdate)))))
+        (cond (eqb k 3) Waiting (cond (eqb k 4) (DoneRead v) (DoneUpdate v))))))
     go (yes e) d = rw e (and-true (ltb x (registersOf cs)))
       where
         and-true : (b : Bool) → (b && true) ≡ b

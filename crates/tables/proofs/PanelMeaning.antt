@@ -13,9 +13,9 @@ use Rattle.names.specs.declared.Task.{Task}
 use Rattle.names.specs.declared.Register.{Register}
 use Rattle.names.specs.Placement.{Placement, tasks, registers}
 use Rattle.channel.specs.Layout.{cardsOf, tasksOf, registersOf}
-use Rattle.claims.specs.Published.{Published, quiet}
+use Rattle.claims.specs.Found.{Found, quiet}
 use Rattle.tables.specs.Layout.{copyWord, homeIn, primaryIn, holdersIn, copyOf}
-use Rattle.tables.specs.Doings.{doingKind, doingRegister, doingFunction, doingKindIn, askedIn, doingFunctionIn, taskWordOf, doingAt}
+use Rattle.tables.specs.Doings.{doingOf, doingKind, doingRegister, doingFunction, doingValue, doingKindIn, askedIn, doingFunctionIn, taskWordOf, doingIn, doingAt}
 use Rattle.tables.specs.Panel.{valueShown, doingShown}
 use Rattle.tables.specs.Shows.{statusOf, StoreShows}
 use Rattle.tables.specs.PanelMeaning.{PanelMeaning, CardAfterCard, FieldsMean, FieldsComputed}
@@ -42,7 +42,7 @@ module _ (rs cs : List ℕ) where
   unfolding doingShown statusOf
   doing-absent t p = rw (le-ltb _ _ p)
 
-pub panel-meaning : (rs cs : List ℕ) (P : Placement) (s : Published) → StoreShows rs cs P s → PanelMeaning rs cs P s
+pub panel-meaning : (rs cs : List ℕ) (P : Placement) (s : Found) → StoreShows rs cs P s → PanelMeaning rs cs P s
 panel-meaning rs cs P s v = record {
   value = λ i x p q. let a : i .0 < cardsOf cs = rw (← v .cards=) p in let b : x .0 < registersOf cs = rw (← v .registers=) q in
       value-there rs cs i x a b ∙ sym (v .registers-show .table= (i .0) (x .0) a b);
@@ -86,5 +86,5 @@ fields-mean = record {
 }
 
 pub fields-computed : FieldsComputed
-unfolding taskWordOf doingKind doingRegister doingFunction homeIn primaryIn holdersIn
-fields-computed = record { asks = refl; quiet-at-home = refl; homeIn-asks = refl; primaryIn-placed = refl; holdersIn-placed = refl }
+unfolding taskWordOf doingKind doingRegister doingFunction doingValue doingIn doingOf doingKindIn askedIn doingFunctionIn homeIn primaryIn holdersIn
+fields-computed = record { asks = refl; quiet-at-home = refl; found = (refl, refl, refl); homeIn-asks = refl; primaryIn-placed = refl; holdersIn-placed = refl }

@@ -15,8 +15,8 @@ use Rattle.names.specs.declared.Letter.{Letter}
 use Rattle.names.specs.Letters.{Packs}
 use Rattle.names.specs.Placement.{Placement}
 use Rattle.automaton.specs.State.{ChannelState}
-use Rattle.claims.specs.Published.{Published, setStatus, setCopy, post}
-use Rattle.claims.specs.Published as Pub
+use Rattle.claims.specs.Found.{Found, setStatus, setCopy, post}
+use Rattle.claims.specs.Found as F
 use Rattle.tables.specs.declared.Doing.{Doing}
 use Rattle.tables.specs.Layout.{requestsWord, taskWord, registerWord, copyWord, outHeadWord, homeIn, holdersIn, primaryIn, copyOf}
 use Rattle.tables.specs.Doings.{DoingPacks, doingAt, doingStored}
@@ -25,7 +25,7 @@ use Rattle.tables.specs.Shows.{statusOf, plain, outboxOf, RegistersShow}
 use Rattle.tables.proofs.Words.{doing-cong, doing-word, doing-home, doing-same, doing-other, outbox-cong, posted-word, post-appends, unposted-word, unpost-drops}
 
 module _ (ws : List ℕ) (cards tasks registers : ℕ) (c8 : cards ≤ 8) (t16 : tasks ≤ 16) (r32 : registers ≤ 32)
-    (P : Placement) (s : Published) (long : length ws ≡ 593) (v : RegistersShow ws cards tasks registers P s) (w : ChannelState Pub.Letter) where
+    (P : Placement) (s : Found) (long : length ws ≡ 593) (v : RegistersShow ws cards tasks registers P s) (w : ChannelState F.Letter) where
   -- the requests taken
   pub requests-show : (n : ℕ)
       → RegistersShow (set ws requestsWord n) cards tasks registers P (record { requests = n; status = s .status; table = s .table; out = s .out; channel = w })

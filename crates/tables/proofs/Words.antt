@@ -35,7 +35,7 @@ doing-back (AskingRead x) = refl
 doing-back (AskingUpdate x f w) = refl
 doing-back Waiting = refl
 doing-back (DoneRead v) = refl
-doing-back DoneUpdate = refl
+doing-back (DoneUpdate v) = refl
 
 pub kind-most : (d : Doing) → doingKind d ≤ 5
 unfolding doingKind
@@ -44,7 +44,7 @@ kind-most (AskingRead x) = omega arith
 kind-most (AskingUpdate x f w) = omega arith
 kind-most Waiting = omega arith
 kind-most (DoneRead v) = omega arith
-kind-most DoneUpdate = omega arith
+kind-most (DoneUpdate v) = omega arith
 
 -- the fields of a task's word made of fields
 module _ (h : ℕ) (d : Doing) where

@@ -16,7 +16,7 @@ doingOf k x f v =
     (cond (eqb k 1) (AskingRead x)
     (cond (eqb k 2) (AskingUpdate x f v)
     (cond (eqb k 3) Waiting
-    (cond (eqb k 4) (DoneRead v) DoneUpdate))))
+    (cond (eqb k 4) (DoneRead v) (DoneUpdate v)))))
 
 unfoldable pub doingKind : Doing → ℕ
 doingKind Quiet = 0
@@ -24,7 +24,7 @@ doingKind (AskingRead x) = 1
 doingKind (AskingUpdate x f w) = 2
 doingKind Waiting = 3
 doingKind (DoneRead v) = 4
-doingKind DoneUpdate = 5
+doingKind (DoneUpdate v) = 5
 
 unfoldable pub doingRegister : Doing → ℕ
 doingRegister Quiet = 0
@@ -32,7 +32,7 @@ doingRegister (AskingRead x) = x .0
 doingRegister (AskingUpdate x f w) = x .0
 doingRegister Waiting = 0
 doingRegister (DoneRead v) = 0
-doingRegister DoneUpdate = 0
+doingRegister (DoneUpdate v) = 0
 
 unfoldable pub doingFunction : Doing → ℕ
 doingFunction Quiet = 0
@@ -40,7 +40,7 @@ doingFunction (AskingRead x) = 0
 doingFunction (AskingUpdate x f w) = f
 doingFunction Waiting = 0
 doingFunction (DoneRead v) = 0
-doingFunction DoneUpdate = 0
+doingFunction (DoneUpdate v) = 0
 
 unfoldable pub doingValue : Doing → ℕ
 doingValue Quiet = 0
@@ -48,7 +48,7 @@ doingValue (AskingRead x) = 0
 doingValue (AskingUpdate x f w) = w
 doingValue Waiting = 0
 doingValue (DoneRead v) = v
-doingValue DoneUpdate = 0
+doingValue (DoneUpdate v) = v
 
 -- the fields of a task's first word
 unfoldable pub doingKindIn : ℕ → ℕ

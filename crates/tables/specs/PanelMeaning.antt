@@ -1,5 +1,5 @@
--- What a panel shows (RULES 11.6) is the published state, where the copies lie (11.8) and how words are packed (11.12): said apart from the
--- definitions that code and laws share.
+-- What a panel shows (RULES 11.6) is the state of the algorithm that the store runs (claims/specs/Found); where the copies lie (11.8) and how words
+-- are packed (11.12): said apart from the definitions that code and laws share.
 use Prim.Native.Nat.{ℕ, _+_, _*_, _<_, _≤_}
 use mathlib.Core.Path.{_≡_}
 use mathlib.Core.Logic.{_⊎_}
@@ -9,19 +9,19 @@ use Rattle.names.specs.declared.Card.{Card}
 use Rattle.names.specs.declared.Task.{Task}
 use Rattle.names.specs.declared.Register.{Register}
 use Rattle.names.specs.Placement.{Placement, tasks, registers}
-use Rattle.claims.specs.Published.{Published, quiet}
-use Rattle.tables.specs.declared.Doing.the-variants.{Quiet, AskingUpdate}
+use Rattle.claims.specs.Found.{Found, quiet}
+use Rattle.tables.specs.declared.Doing.the-variants.{Quiet, AskingUpdate, DoneUpdate}
 use Rattle.tables.specs.Layout.{homeIn, primaryIn, holdersIn, copyOf, requestsOf}
-use Rattle.tables.specs.Doings.{doingKindIn, askedIn, doingFunctionIn, taskWordOf}
+use Rattle.tables.specs.Doings.{doingKindIn, askedIn, doingFunctionIn, taskWordOf, doingIn, doingValue}
 use Rattle.tables.specs.Panel.{valueShown, doingShown}
 use Rattle.tables.specs.Shows.{statusOf, StoreShows}
 
 -- of memories that show placement P and state s
-pub record PanelMeaning (rs cs : List ℕ) (P : Placement) (s : Published) : Type 0 where
-  -- the value of a present card's copy of a present register is the one in the published table; any other is 0
+pub record PanelMeaning (rs cs : List ℕ) (P : Placement) (s : Found) : Type 0 where
+  -- the value of a present card's copy of a present register is the one in the table; any other is 0
   pub value : (i : Card) (x : Register) → i .0 < P .cards → x .0 < registers P → valueShown rs cs i x ≡ s .table (i .0) (x .0)
   pub no-value : (i : Card) (x : Register) → (P .cards ≤ i .0) ⊎ (registers P ≤ x .0) → valueShown rs cs i x ≡ 0
-  -- what a present task is doing is its published status; an absent one is quiet
+  -- what a present task is doing is its status, with the value read or found; an absent one is quiet
   pub doing : (t : Task) → t .0 < tasks P → statusOf (doingShown rs cs t) ≡ s .status (t .0)
   pub no-doing : (t : Task) → tasks P ≤ t .0 → statusOf (doingShown rs cs t) ≡ quiet
   -- the number of requests taken
@@ -40,10 +40,12 @@ pub record FieldsMean : Type 0 where
   pub register : (w : ℕ) → w ≡ primaryIn w + 8 * holdersIn w
   pub primary : (w : ℕ) → primaryIn w < 8
 
--- task 3 of home 2 asks to set register 1 to 9: its word, and what a register with primary 1 and copies on 0, 1 and 2 has
+-- task 3 of home 2 asks to set register 1 to 9: its word; the words of a task of home 2 whose update found 7; and what a register with primary 1 and
+-- copies on 0, 1 and 2 has
 pub record FieldsComputed : Type 0 where
   pub asks : taskWordOf 2 (AskingUpdate (record { 0 = 1 }) 1 9) ≡ 4362
   pub quiet-at-home : taskWordOf 7 Quiet ≡ 14336
+  pub found : (taskWordOf 2 (DoneUpdate 7) ≡ 4101) × (doingValue (DoneUpdate 7) ≡ 7) × (doingIn 4101 7 ≡ DoneUpdate 7)
   pub homeIn-asks : homeIn 4362 ≡ 2
   pub primaryIn-placed : primaryIn 57 ≡ 1
   pub holdersIn-placed : holdersIn 57 ≡ 7

@@ -28,7 +28,7 @@ doingFits cs (AskingRead x) = ltb (x .0) (registersOf cs)
 doingFits cs (AskingUpdate x f w) = ltb (x .0) (registersOf cs) && knownFunction f
 doingFits cs Waiting = true
 doingFits cs (DoneRead v) = true
-doingFits cs DoneUpdate = true
+doingFits cs (DoneUpdate v) = true
 
 -- the same of the fields of a task's word (proofs/AskedFits joins the two)
 unfoldable pub askedFits : Limits → ℕ → ℕ → ℕ → Bool

@@ -31,7 +31,7 @@ fn doing_of(kind: u32, register: Register, function: u32, value: u32) -> Doing
     if kind == 4 {
         return Doing::DoneRead(value);
     }
-    Doing::DoneUpdate
+    Doing::DoneUpdate(value)
 }
 
 // The number of what a task is doing.
@@ -44,7 +44,7 @@ pub fn kind_of(doing: Doing) -> u32
         Doing::AskingUpdate(_, _, _) => 2,
         Doing::Waiting => 3,
         Doing::DoneRead(_) => 4,
-        Doing::DoneUpdate => 5,
+        Doing::DoneUpdate(_) => 5,
     }
 }
 
@@ -57,7 +57,7 @@ fn register_of(doing: Doing) -> Register
         Doing::AskingUpdate(x, _, _) => x,
         Doing::Waiting => Register(0),
         Doing::DoneRead(_) => Register(0),
-        Doing::DoneUpdate => Register(0),
+        Doing::DoneUpdate(_) => Register(0),
     }
 }
 
@@ -70,11 +70,11 @@ fn function_of(doing: Doing) -> u32
         Doing::AskingUpdate(_, f, _) => f,
         Doing::Waiting => 0,
         Doing::DoneRead(_) => 0,
-        Doing::DoneUpdate => 0,
+        Doing::DoneUpdate(_) => 0,
     }
 }
 
-// The value that a task has read, or the operand of an update that it asks for.
+// The value that a task has read or its update has found, or the operand of an update that it asks for.
 pub fn value_of(doing: Doing) -> u32
     ensures { λ r. ⌜ r ≡ doingValue doing ⌝ }
 {
@@ -84,7 +84,7 @@ pub fn value_of(doing: Doing) -> u32
         Doing::AskingUpdate(_, _, w) => w,
         Doing::Waiting => 0,
         Doing::DoneRead(v) => v,
-        Doing::DoneUpdate => 0,
+        Doing::DoneUpdate(v) => v,
     }
 }
 
@@ -119,14 +119,15 @@ pub fn store(registers: &mut [u32; 593], task: Task, doing: Doing)
     registers[at + 1] = value_of(doing);
 }
 
-// The task's update is done where a test holds. Its words are written either way: the test is not foreseen, and a jump that goes wrong costs more.
-pub fn end_update(registers: &mut [u32; 593], task: Task, done: bool)
-    ensures { λ _. ⌜ now (registers .exit) ≡ cond done (doingStored (now (registers .entry)) (task .0) DoneUpdate) (now (registers .entry)) ⌝ }
+// The task's update is done, with the value found, where a test holds. Its words are written either way: the test is not foreseen, and a jump that
+// goes wrong costs more.
+pub fn end_update(registers: &mut [u32; 593], task: Task, done: bool, found: u32)
+    ensures { λ _. ⌜ now (registers .exit) ≡ cond done (doingStored (now (registers .entry)) (task .0) (DoneUpdate found)) (now (registers .entry)) ⌝ }
 {
     let at = TASK + task_place(task) * 2;
     let word = registers[at];
     let value = registers[at + 1];
-    let ended = word_of(home_in(word), Doing::DoneUpdate);
+    let ended = word_of(home_in(word), Doing::DoneUpdate(found));
     registers[at] = picked(done, ended) | picked(!done, word);
-    registers[at + 1] = picked(!done, value);
+    registers[at + 1] = picked(done, found) | picked(!done, value);
 }

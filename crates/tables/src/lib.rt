@@ -20,5 +20,6 @@ pub enum Doing {
     Waiting,
     // the value read
     DoneRead(u32),
-    DoneUpdate,
+    // the value that the update found
+    DoneUpdate(u32),
 }

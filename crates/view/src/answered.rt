@@ -41,22 +41,35 @@ fn note(requests: &mut [u8; 16], code: u32, task: u32, result: u8) {
     requests[task as usize % 16] = code as u8;
 }
 
-// Whether the step is a taken report of a read.
-fn gave(requests: &[u8; 16], code: u32, task: u32, result: u8) -> bool {
-    if !names::is_taken(result) {
-        return false;
-    }
-    if code != 10 {
-        return false;
-    }
-    requests[task as usize % 16] == 1
+// What a taken report of this task is of: 1 a read, 2 an update.
+fn reported(requests: &[u8; 16], task: u32) -> u8 {
+    requests[task as usize % 16]
 }
 
-fn value(page: &mut [u8; 65536], at: usize, given: bool, value: u32) -> usize {
-    if !given {
+// The value that a taken report gives: read, or found by an update.
+fn value(page: &mut [u8; 65536], at: usize, of: u8, value: u32) -> usize {
+    if of == 1 {
+        return tell_one(page, at, b", value #", value);
+    }
+    tell_one(page, at, b", found #", value)
+}
+
+fn given(
+    page: &mut [u8; 65536],
+    at: usize,
+    requests: &[u8; 16],
+    code: u32,
+    task: u32,
+    result: u8,
+    told: u32,
+) -> usize {
+    if !names::is_taken(result) {
         return at;
     }
-    tell_one(page, at, b", value #", value)
+    if code != 10 {
+        return at;
+    }
+    value(page, at, reported(requests, task), told)
 }
 
 // What was answered to a step of a task, to the end of the line.
@@ -67,10 +80,10 @@ pub(crate) fn finish(
     code: u32,
     task: u32,
     result: u8,
-    read: u32,
+    told: u32,
 ) -> usize {
     let a = show(page, at, result);
-    let b = value(page, a, gave(requests, code, task, result), read);
+    let b = given(page, a, requests, code, task, result, told);
     note(requests, code, task, result);
     put(page, b, b'\n')
 }

@@ -1,5 +1,5 @@
 //! K9 (RULES 3.5, 13): task 0 reads what broadcast 1 set; then its message overtakes broadcast 1.
-use gondzselu::{Condition::DoneRead, Function, Placement, Step, Store, Tally};
+use gondzselu::{Function, Placement, Step, Store, Tally};
 use std::{error::Error, io::Write};
 
 fn main() -> Result<(), Box<dyn Error>> {
@@ -33,10 +33,10 @@ fn main() -> Result<(), Box<dyn Error>> {
     let (mut store, mut tally) = (Store::start(place)?, Tally::default());
     let mut out = std::io::stdout().lock();
     for (at, (words, step)) in steps.into_iter().enumerate() {
-        let read = matches!(step, Step::Report { task } if matches!(store.task(task), DoneRead(_)));
+        let report = matches!(step, Step::Report { .. }); // it answers what was read or found
         match store.step_counted(step, &mut tally) {
             Err(refusal) => writeln!(out, "{at:2}  {words:39}{:3} refused", refusal.number())?,
-            Ok(t) if read => writeln!(out, "{at:2}  {words:39}  0 {t}, value {}", t.value)?,
+            Ok(t) if report => writeln!(out, "{at:2}  {words:39}  0 {t}, value {}", t.value)?,
             Ok(t) => writeln!(out, "{at:2}  {words:39}{:3} {t}", t.result())?, // taken, or held
         }
     }

@@ -11,6 +11,8 @@ use core::fmt;
 /// let condition = Condition::DoneRead(7);
 /// assert_eq!((condition.number(), condition.value()), (4, 7));
 /// assert_eq!(condition.to_string(), "done with a read");
+/// let condition = Condition::DoneUpdate(6); // the copy was 6 just before the update
+/// assert_eq!((condition.number(), condition.value()), (5, 6));
 /// ```
 #[derive(Clone, Copy, Debug, PartialEq, Eq, Hash)]
 pub enum Condition {
@@ -24,8 +26,8 @@ pub enum Condition {
     Waiting,
     /// 4: it is done with a read, of this value.
     DoneRead(u32),
-    /// 5: it is done with an update.
-    DoneUpdate,
+    /// 5: it is done with an update, which found this value.
+    DoneUpdate(u32),
 }
 
 impl Condition {
@@ -37,14 +39,17 @@ impl Condition {
             Condition::AskingUpdate(_) => 2,
             Condition::Waiting => 3,
             Condition::DoneRead(_) => 4,
-            Condition::DoneUpdate => 5,
+            Condition::DoneUpdate(_) => 5,
         }
     }
 
-    /// The operand of an update asked for, or the value read; else 0.
+    /// The operand of an update asked for, the value read, or the value that the update found;
+    /// else 0.
     pub const fn value(self) -> u32 {
         match self {
-            Condition::AskingUpdate(value) | Condition::DoneRead(value) => value,
+            Condition::AskingUpdate(value)
+            | Condition::DoneRead(value)
+            | Condition::DoneUpdate(value) => value,
             _ => 0,
         }
     }
@@ -58,7 +63,7 @@ impl Condition {
             2 => Condition::AskingUpdate(value),
             3 => Condition::Waiting,
             4 => Condition::DoneRead(value),
-            _ => Condition::DoneUpdate,
+            _ => Condition::DoneUpdate(value),
         }
     }
 }
@@ -72,7 +77,7 @@ impl fmt::Display for Condition {
             Condition::AskingUpdate(_) => "asking to update",
             Condition::Waiting => "waiting",
             Condition::DoneRead(_) => "done with a read",
-            Condition::DoneUpdate => "done with an update",
+            Condition::DoneUpdate(_) => "done with an update",
         })
     }
 }

@@ -26,8 +26,8 @@
 //! store.step(Step::Dispatch { card: 0 })?;
 //! store.step(Step::TakeBroadcast { card: 0 })?;
 //! store.step(Step::Deliver { card: 0 })?;
-//! assert_eq!(store.task(0), Condition::DoneUpdate);
-//! store.step(Step::Report { task: 0 })?;
+//! assert_eq!(store.task(0), Condition::DoneUpdate(0)); // it found 0
+//! assert_eq!(store.step(Step::Report { task: 0 })?.value, 0);
 //!
 //! // Card 1 has not taken it: nothing is there to deliver, and its copy is still 0.
 //! assert_eq!(store.step(Step::Deliver { card: 1 }), Err(Refusal::InboxEmpty));
@@ -42,9 +42,11 @@
 //! # Ok::<(), Refusal>(())
 //! ```
 //!
-//! A step that is taken gives [`Taken`]: the value read, and whether its message is held. A whole
-//! run file is answered by [`answer`], and written from a placement and [`Steps`] by
-//! [`write()`]. A refusal prints as a phrase; [`sentence()`] says it with the place of its step.
+//! A step that is taken gives [`Taken`]: at a report the value read or the value that the update
+//! found, and of step 8 whether its message is held. So a counter hands out numbers: tasks that add
+//! 1 to a register are told different ones (RULES 5.15, `examples/tickets.rs`). A whole run file is
+//! answered by [`answer`], and written from a placement and [`Steps`] by [`write()`]. A refusal
+//! prints as a phrase; [`sentence()`] says it with the place of its step.
 //!
 //! # Memory
 //!

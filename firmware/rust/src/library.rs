@@ -21,7 +21,7 @@ const fn number(digits: &str) -> u32 {
     number
 }
 
-/// The version of the library that is linked, in the form of [`VERSION`]: 7000 is 0.7.0.
+/// The version of the library that is linked, in the form of [`VERSION`]: 8000 is 0.8.0.
 ///
 /// ```
 /// assert_eq!(gondzselu::version(), gondzselu::VERSION);

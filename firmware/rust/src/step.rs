@@ -136,7 +136,8 @@ pub enum Step {
         /// The card whose inbox it is.
         card: u8,
     },
-    /// 10: a task that is done becomes quiet; the value of a read is answered.
+    /// 10: a task that is done becomes quiet; the value that was read, or that its update found, is
+    /// answered ([`Taken::value`](crate::Taken::value)).
     Report {
         /// The task that is done.
         task: u8,

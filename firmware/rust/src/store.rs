@@ -111,10 +111,10 @@ impl Store {
         done(self.memories.start_file(file))
     }
 
-    /// Tries a step: its value, which is 0 unless a read is reported, and whether its message is
-    /// held, which only that of step 8 may be; or the refusal, 6 to 35. The whole state is checked
-    /// first; an ill-sized one is refused with 6. A reported read may give 0 too:
-    /// [`task`](Store::task) before the report tells which it is.
+    /// Tries a step: its value, which is 0 unless it is a report, of a read or of an update, and
+    /// whether its message is held, which only that of step 8 may be; or the refusal, 6 to 35. The
+    /// whole state is checked first; an ill-sized one is refused with 6. What a report will be of,
+    /// [`task`](Store::task) tells before it.
     #[inline]
     pub fn step(&mut self, step: Step) -> Result<Taken, Refusal> {
         self.step_bytes(step.code(), step.argument())
@@ -253,7 +253,7 @@ impl Store {
     }
 
     /// The words of both memories, of the registers and of the channel, to keep or to send. What
-    /// lies where is said in RULES 11.12, and was otherwise before 0.5.0.
+    /// lies where is said in RULES 11.12, and was otherwise before 0.8.0.
     pub fn words(&self) -> (&[u32; REGISTERS_WORDS], &[u32; CHANNEL_WORDS]) {
         self.memories.words()
     }

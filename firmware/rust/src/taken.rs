@@ -35,7 +35,8 @@ pub const HELD: u8 = 100;
 /// ```
 #[derive(Clone, Copy, Debug, PartialEq, Eq, Hash)]
 pub struct Taken {
-    /// The value read, of a report of a read; else 0.
+    /// Of a report the value read, or the value that the update found: that of the copy just before
+    /// it. Of every other step it is 0.
     pub value: u32,
     /// Whether the message of a step 8 is held at its destination until the broadcast that its tag
     /// names is taken there. Of every other step it is false.

@@ -50,5 +50,5 @@ fn held_or_joined_a_message_is_taken() {
     }
     assert_eq!((tally.taken, tally.refused), (17, 1));
     assert_eq!(store.step(Step::Deliver { card: 0 }), Ok(joined));
-    assert_eq!(store.task(0), Condition::DoneUpdate);
+    assert_eq!(store.task(0), Condition::DoneUpdate(0));
 }

@@ -186,15 +186,14 @@ fn a_card_falls_behind_as_far_as_the_limit_says() {
     };
     let send = Step::SendUpdate { task: 0 };
     let dispatch = Step::Dispatch { card: 0 };
-    let rest = [
-        Step::TakeBroadcast { card: 0 },
-        Step::Deliver { card: 0 },
-        Step::Report { task: 0 },
-    ];
-    for _ in 0..MAX_BEHIND {
+    let rest = [Step::TakeBroadcast { card: 0 }, Step::Deliver { card: 0 }];
+    for number in 0..MAX_BEHIND {
         for step in [update, send, dispatch].into_iter().chain(rest) {
             assert_eq!(store.step(step), TAKEN);
         }
+        // All but the first find the 1 that is there already.
+        let found = number.min(1);
+        assert_eq!(store.step(Step::Report { task: 0 }), taken(found, false));
     }
     let behind = |store: &Store| store.broadcasts() - store.broadcasts_taken(1);
     assert_eq!(behind(&store), MAX_BEHIND);
@@ -205,7 +204,7 @@ fn a_card_falls_behind_as_far_as_the_limit_says() {
     assert_eq!(behind(&store), MAX_BEHIND);
 }
 
-/// RULES 2.2 and 2.5: one below the top and 3 more, by either sum.
+/// RULES 2.2 and 2.5: one below the top and 3 more, by either sum; each is told what it found.
 #[test]
 fn a_counter_at_the_top() {
     let sums = [
@@ -219,13 +218,15 @@ fn a_counter_at_the_top() {
             steps.map(|step| store.step(step).expect("a step taken"))[2]
         };
         let (task, register) = (0, 0);
-        for (function, operand) in [(Function::Set, 4_294_967_294), (function, 3)] {
-            operation(Step::RequestUpdate {
+        let below = 4_294_967_294;
+        for (function, operand, found) in [(Function::Set, below, 0), (function, 3, below)] {
+            let update = operation(Step::RequestUpdate {
                 task,
                 register,
                 function,
                 operand,
             });
+            assert_eq!(update.value, found, "{function}");
         }
         let read = operation(Step::RequestRead { task, register });
         assert_eq!(read.value, expected, "{function}");

@@ -8,7 +8,7 @@ pub mod words;
 use crate::generate::{any_placement, known_function, operand};
 use crate::model::channel::{Body, Message, Tagged, BEHIND};
 use crate::model::placement::Placement;
-use crate::model::{only, Cards, Request, State, Task};
+use crate::model::{only, Cards, Request, State, Task, Value};
 use crate::random::Random;
 
 fn all(placement: &Placement) -> Cards {
@@ -18,12 +18,21 @@ fn all(placement: &Placement) -> Cards {
 fn message(random: &mut Random, placement: &Placement, to: Cards) -> Message {
     let body = match random.between(0, 2) {
         0 => Body::Reply {
-            value: operand(random),
+            value: value(random),
         },
         _ => Body::Request(request(random, placement)),
     };
     let task = random.between(0, placement.home.len() - 1);
     Message { task, to, body }
+}
+
+/// Any word, read or found.
+fn value(random: &mut Random) -> Value {
+    let word = operand(random);
+    match random.percent(50) {
+        true => Value::Read(word),
+        false => Value::Found(word),
+    }
 }
 
 fn request(random: &mut Random, placement: &Placement) -> Request {
@@ -43,7 +52,7 @@ fn task(random: &mut Random, placement: &Placement) -> Task {
         0 => Task::Quiet,
         1 | 2 => Task::Asking(request(random, placement)),
         3 => Task::Waiting,
-        _ => Task::Done(operand(random)),
+        _ => Task::Done(value(random)),
     }
 }
 
@@ -185,6 +194,29 @@ mod tests {
         }
         assert_eq!(statistics::faults(&faults), [""; 0]);
         assert!((0..=26).all(|number| behind.contains(&number)));
+    }
+
+    /// Tasks and replies have values, read and found, 0 and above.
+    #[test]
+    fn values_of_both_sorts() {
+        let mut seen = BTreeSet::new();
+        for item in 0..200 {
+            let state = any(&mut Random::new(3, item));
+            let queued = state.channel.outbox.iter().chain(&state.channel.inbox);
+            let messages = queued.flatten().map(|message| match message.body {
+                Body::Reply { value } => Some(("reply", value)),
+                Body::Request(_) => None,
+            });
+            let tasks = state.tasks.iter().map(|task| match task {
+                Task::Done(value) => Some(("task", *value)),
+                _ => None,
+            });
+            for (of, value) in messages.chain(tasks).flatten() {
+                let found = matches!(value, Value::Found(_));
+                seen.insert((of, found, value.word() > 0));
+            }
+        }
+        assert_eq!(seen.len(), 8, "{seen:?}");
     }
 
     /// Steps from so many states have every result, 100 among them, which only a step 8 has.

@@ -5,10 +5,11 @@
 //! makes files from a seed, `statistics` tells what files contain and what they must reach,
 //! `memory` has a state in the words of a store, `by_hand` makes states that no run needs to reach,
 //! `sentence` puts refusals into words, `stored`, `view`, `say` and `compose` have the files that
-//! the tree keeps (`folder`), `selfcheck` and `consistency` try the model itself, `library` compares
-//! the store with it, `writing` a writer of run files, and `roundtrip` the programs `view` and
-//! `compose`.
+//! the tree keeps (`folder`), `selfcheck`, `consistency` and `applied` try the model itself,
+//! `library` compares the store with it, `writing` a writer of run files, and `roundtrip` the
+//! programs `view` and `compose`.
 
+pub mod applied;
 pub mod by_hand;
 pub mod compose;
 pub mod consistency;

@@ -16,13 +16,13 @@ use crate::memory::{self, Words};
 use crate::model::files::{answer_file, answer_into, program_output, Run};
 use crate::model::placement::Placement;
 use crate::model::results::taken;
-use crate::model::{tally, Request, State, Task};
+use crate::model::{tally, Request, State, Task, Value};
 use crate::named;
 use crate::random::Random;
 use calls::Calls;
 
-/// Version 0.7.0.
-const VERSION: u32 = 7_000;
+/// Version 0.8.0.
+const VERSION: u32 = 8_000;
 
 /// What lies in a lent output before.
 const FILL: u8 = 0xA5;
@@ -168,6 +168,18 @@ fn same(what: &str, found: u32, wanted: u32) -> Result<(), String> {
     }
 }
 
+/// What a task is doing, as the crate has it.
+fn condition(task: &Task) -> Condition {
+    match *task {
+        Task::Quiet => Condition::Quiet,
+        Task::Asking(Request::Read { .. }) => Condition::AskingRead,
+        Task::Asking(Request::Update { operand, .. }) => Condition::AskingUpdate(operand),
+        Task::Waiting => Condition::Waiting,
+        Task::Done(Value::Read(value)) => Condition::DoneRead(value),
+        Task::Done(Value::Found(found)) => Condition::DoneUpdate(found),
+    }
+}
+
 /// Compares what a panel reads, of absent cards, tasks and registers too.
 pub fn compare_panel(state: &State, store: &Store) -> Result<(), String> {
     same("requests", store.requests(), state.requests)?;
@@ -188,18 +200,9 @@ pub fn compare_panel(state: &State, store: &Store) -> Result<(), String> {
     }
     for task in 0..17 {
         let found = store.task(task);
-        let fits = match state.tasks.get(task as usize).unwrap_or(&Task::Quiet) {
-            Task::Quiet => found == Condition::Quiet,
-            Task::Asking(Request::Read { .. }) => found == Condition::AskingRead,
-            Task::Asking(Request::Update { operand, .. }) => {
-                found == Condition::AskingUpdate(*operand)
-            }
-            Task::Waiting => found == Condition::Waiting,
-            Task::Done(0) => found == Condition::DoneRead(0) || found == Condition::DoneUpdate,
-            Task::Done(value) => found == Condition::DoneRead(*value),
-        };
-        if !fits {
-            return Err(format!("task {task}: {found:?}"));
+        let wanted = state.tasks.get(task as usize).unwrap_or(&Task::Quiet);
+        if found != condition(wanted) {
+            return Err(format!("task {task}: {found:?}, not {wanted:?}"));
         }
         let numbers = c::task(store, task as u32);
         if numbers != (found.number() as u32, found.value()) {

@@ -216,8 +216,11 @@ fn self_checks(seed: &str, count: &str) -> Result<(), String> {
         runs,
         steps,
         orders,
+        again,
     } = checked;
-    println!("checked {runs} runs, {steps} steps, {orders} serial orders");
+    println!(
+        "checked {runs} runs, {steps} steps, {orders} serial orders, {again} values found by a further holder"
+    );
     Ok(())
 }
 

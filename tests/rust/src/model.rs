@@ -6,6 +6,8 @@
 
 pub mod channel;
 pub mod files;
+#[cfg(test)]
+mod found;
 mod functions;
 mod judge;
 pub mod placement;
@@ -60,8 +62,26 @@ pub enum Task {
     Quiet,
     Asking(Request),
     Waiting,
-    /// With the value to report: the value read, 0 for an update.
-    Done(u32),
+    /// With what it has to report.
+    Done(Value),
+}
+
+/// What a task is done with and a reply brings it (RULES 1.8, 5.9); both are told apart, for 4 and 5
+/// are two conditions, and 3 and 4 two kinds of message.
+#[derive(Clone, Copy, Debug, PartialEq, Eq)]
+pub enum Value {
+    /// By a read.
+    Read(u32),
+    /// By an update: what the copy had just before it was applied.
+    Found(u32),
+}
+
+impl Value {
+    /// As it is answered (RULES 4.3).
+    pub fn word(self) -> u32 {
+        let (Value::Read(word) | Value::Found(word)) = self;
+        word
+    }
 }
 
 #[derive(Clone, Debug, PartialEq, Eq)]
@@ -153,15 +173,12 @@ impl State {
             Step::Perform { task } => {
                 let home = self.home(task);
                 let value = match self.request(task) {
-                    Request::Read { register } => self.copy(home, register),
+                    Request::Read { register } => Value::Read(self.copy(home, register)),
                     Request::Update {
                         register,
                         function,
                         operand,
-                    } => {
-                        self.update(home, register, function, operand);
-                        0
-                    }
+                    } => Value::Found(self.update(home, register, function, operand)),
                 };
                 self.tasks[task] = Task::Done(value);
             }
@@ -185,7 +202,7 @@ impl State {
             Step::Report { task } => {
                 if let Task::Done(value) = self.tasks[task] {
                     self.tasks[task] = Task::Quiet;
-                    return (DONE, value);
+                    return (DONE, value.word());
                 }
             }
         }
@@ -212,24 +229,28 @@ impl State {
         self.tasks[task] = Task::Waiting;
     }
 
-    fn update(&mut self, card: Card, register: Register, function: u8, operand: u32) {
+    /// Applies an update to a copy and gives the value found there.
+    fn update(&mut self, card: Card, register: Register, function: u8, operand: u32) -> u32 {
         let copy = self.copy_mut(card, register);
-        *copy = apply(function, *copy, operand);
+        let found = *copy;
+        *copy = apply(function, found, operand);
+        found
     }
 
-    /// The reply that delivering this message on this card sends, if any (RULES 5.9).
+    /// The reply that delivering this message on this card sends, if any (RULES 5.9). The copy is as
+    /// the message finds it.
     fn reply(&self, card: Card, message: &Message) -> Option<Message> {
         let task = message.task;
         let home = self.home(task);
         let value = match message.body {
-            Body::Request(Request::Read { register }) => self.copy(card, register),
+            Body::Request(Request::Read { register }) => Value::Read(self.copy(card, register)),
             // Only the primary replies, and only to a home without a copy.
             Body::Request(Request::Update { register, .. }) => {
                 let place = self.placement.registers[register];
                 if has(place.holders, home) || place.primary as usize != card {
                     return None;
                 }
-                0
+                Value::Found(self.copy(card, register))
             }
             Body::Reply { .. } => return None,
         };
@@ -255,9 +276,9 @@ impl State {
                 function,
                 operand,
             }) => {
-                self.update(card, register, function, operand);
+                let found = self.update(card, register, function, operand);
                 if self.home(message.task) == card {
-                    self.tasks[message.task] = Task::Done(0);
+                    self.tasks[message.task] = Task::Done(Value::Found(found));
                 }
             }
             Body::Reply { value } => self.tasks[message.task] = Task::Done(value),

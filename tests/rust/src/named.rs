@@ -29,6 +29,7 @@ pub fn runs() -> Vec<Named> {
         cards::k10(),
         cards::two_held(),
         counter(),
+        cards::tickets(),
         cards::k11(),
         cards::k12(),
     ]
@@ -109,11 +110,12 @@ fn k8() -> Named {
     told("K8", alone(), &steps)
 }
 
-/// A counter near the top: function 2 stays there, function 5 comes round; 6 and 0 are no functions.
+/// A counter near the top: function 2 stays there, function 5 comes round; 6 and 0 are no functions. Each
+/// update reports what it found.
 fn counter() -> Named {
-    let update = |function, operand| {
+    let update = |function, operand, found| {
         let request = request_update(0, 0, function, operand);
-        [taken(request), taken(perform(0)), taken(report(0))]
+        [taken(request), taken(perform(0)), gives(report(0), found)]
     };
     let read = |value| {
         [
@@ -123,10 +125,10 @@ fn counter() -> Named {
         ]
     };
     let mut steps = Vec::new();
-    steps.extend(update(1, 4_294_967_294));
-    steps.extend(update(2, 3));
+    steps.extend(update(1, 4_294_967_294, 0));
+    steps.extend(update(2, 3, 4_294_967_294));
     steps.extend(read(4_294_967_295));
-    steps.extend(update(5, 3));
+    steps.extend(update(5, 3, 4_294_967_295));
     steps.extend(read(2));
     steps.extend([6, 0].map(|function| refused(request_update(0, 0, function, 3), 15)));
     told("counter", alone(), &steps)
@@ -164,10 +166,11 @@ mod tests {
         }
     }
 
-    /// The files of `examples` are K2 and K9 (RULES 3.5, 3.6), and a counter at the top (13.3).
+    /// The files of `examples` are K2 and K9 (RULES 3.5, 3.6), a counter at the top (13.3), and numbers handed
+    /// out (13.4).
     #[test]
     fn the_examples_are_these() {
-        let examples = ["K2", "K9", "counter"].map(|name| {
+        let examples = ["K2", "K9", "counter", "tickets"].map(|name| {
             let mut runs = runs().into_iter();
             let run = runs.find(|run| run.name == name).expect("a named run");
             (format!("{}.run", name.to_lowercase()), run.file)

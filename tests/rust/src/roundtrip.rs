@@ -79,8 +79,8 @@ const SIZES: [(&str, [usize; 2]); 4] = [
 fn shown() -> impl Iterator<Item = String> {
     let steps = view::NAMES.map(|name| format!("  {name:<16}"));
     let functions = view::NAMED_FUNCTIONS.map(|name| format!("  {name:<22}"));
-    let others = ["  bytes ", " taken\n", " taken, value ", " held\n"];
-    let others = others.map(String::from);
+    let taken = [" taken\n", " taken, value ", " taken, found ", " held\n"];
+    let others = ["  bytes "].into_iter().chain(taken).map(String::from);
     steps.into_iter().chain(functions).chain(others)
 }
 

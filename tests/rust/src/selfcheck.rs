@@ -1,5 +1,6 @@
 //! Checks of the model against itself on generated files.
 
+use crate::applied::Updates;
 use crate::consistency::{consistent, history, operations};
 use crate::model::files::{answer_file, write_answer, Run};
 use crate::model::results::{taken, HELD};
@@ -13,6 +14,8 @@ pub struct Checked {
     pub runs: usize,
     pub steps: usize,
     pub orders: usize,
+    /// Times that a further holder found the value of an update.
+    pub again: usize,
 }
 
 /// Checks one file; says what is wrong with it. Refused files pass.
@@ -25,8 +28,10 @@ pub fn check(file: &[u8], checked: &mut Checked) -> Result<(), String> {
     }
     let mut state = State::start(run.placement.clone()).expect("an accepted placement");
     let mut answers = Vec::new();
+    let mut updates = Updates::default();
     for (number, &(code, argument)) in run.steps.iter().enumerate() {
         let before = state.clone();
+        let step = state.allowed(code, argument);
         // The step with the check of the state, which no run fails (RULES 8.9).
         let (result, value) = state.step(code, argument);
         if result == 6 {
@@ -41,6 +46,10 @@ pub fn check(file: &[u8], checked: &mut Checked) -> Result<(), String> {
         let held = held(&state) > held(&before);
         if (result == HELD) != held || held && (code, value) != (8, 0) {
             return Err(format!("step {number} gives {result}, and holds: {held}"));
+        }
+        if let Ok(step) = step {
+            let seen = updates.see(&before, step, value);
+            seen.map_err(|words| format!("step {number}: {words}"))?;
         }
         answers.push((result, value));
     }
@@ -57,6 +66,7 @@ pub fn check(file: &[u8], checked: &mut Checked) -> Result<(), String> {
     drained(state)?;
     checked.runs += 1;
     checked.steps += answers.len();
+    checked.again += updates.again;
     Ok(())
 }
 
@@ -129,5 +139,6 @@ mod tests {
             assert_eq!(check(&file, &mut checked), Ok(()));
         }
         assert!(checked.orders > 200);
+        assert!(checked.again > 1_000);
     }
 }

@@ -74,6 +74,7 @@ pub fn view(file: &[u8]) -> String {
         let task = argument[0] as usize;
         let answered = match (result, code) {
             (DONE, 10) if reads[task] => format!("taken, value {value}"),
+            (DONE, 10) => format!("taken, found {value}"),
             (DONE, _) => "taken".to_string(),
             (HELD, _) => "held".to_string(),
             _ => refused(result),
@@ -192,6 +193,22 @@ register  1  primary card 1  copies on 1
 taken 15, refused 1
 ";
         assert_eq!(of("K9"), k9);
+    }
+
+    /// A counter at the top (RULES 13.3): what updates found, what reads gave.
+    #[test]
+    fn reports() {
+        let text = of("counter");
+        let reports = text.lines().filter(|line| line.contains("  report "));
+        let answers: Vec<&str> = reports.map(|line| &line[79..]).collect();
+        let wanted = [
+            "taken, found 0",
+            "taken, found 4294967294",
+            "taken, value 4294967295",
+            "taken, found 4294967295",
+            "taken, value 2",
+        ];
+        assert_eq!(answers, wanted);
     }
 
     /// What rt gives the program, and what it must print: K9.

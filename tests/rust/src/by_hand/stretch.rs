@@ -1,8 +1,7 @@
 //! One thing of a state put at its limit or past it. A task, a register, a primary or a function
 //! past its limit is one that its field in memory can have: no task where 16 are present.
 
-use super::{message, tagged};
-use crate::generate::operand;
+use super::{message, tagged, value};
 use crate::memory::{Field, ASKED, PRIMARY, REGISTER, TASK};
 use crate::model::channel::{Body, Message, BEHIND};
 use crate::model::placement::Placement;
@@ -139,7 +138,7 @@ fn stretch_message(random: &mut Random, placement: &Placement, message: &mut Mes
                 Body::Request(Request::Update { function, .. }) => {
                     *function = random.pick(&[1, 5, 0, 6, 7])
                 }
-                Body::Reply { value } => *value = operand(random),
+                Body::Reply { value: old } => *old = value(random),
             }
         }
     }

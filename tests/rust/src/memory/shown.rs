@@ -7,7 +7,7 @@ use super::{CARDS, CHANNEL_WORDS, MADE, REGISTER, REGISTERS, REGISTERS_WORDS, RE
 use super::{TAG, TASK, TASKS, VALUE};
 use crate::model::channel::{Body, Channel, Message, Tagged, BEHIND};
 use crate::model::placement::{Place, Placement};
-use crate::model::{Request, State, Task};
+use crate::model::{Request, State, Task, Value};
 
 fn message(words: &[u32]) -> Message {
     let (word, value) = (words[0], words[VALUE]);
@@ -19,8 +19,12 @@ fn message(words: &[u32]) -> Message {
             function: FUNCTION.of(word) as u8,
             operand: value,
         }),
-        3 => Body::Reply { value },
-        _ => Body::Reply { value: 0 },
+        3 => Body::Reply {
+            value: Value::Read(value),
+        },
+        _ => Body::Reply {
+            value: Value::Found(value),
+        },
     };
     Message {
         task: TASK.of(word) as usize,
@@ -48,8 +52,8 @@ fn task_in(words: &[u32]) -> Task {
             operand: value,
         }),
         3 => Task::Waiting,
-        4 => Task::Done(value),
-        _ => Task::Done(0),
+        4 => Task::Done(Value::Read(value)),
+        _ => Task::Done(Value::Found(value)),
     }
 }
 

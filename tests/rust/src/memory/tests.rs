@@ -5,7 +5,7 @@ use crate::by_hand;
 use crate::model::channel::{Body, Message, Tagged};
 use crate::model::files::Run;
 use crate::model::placement::Placement;
-use crate::model::{Cards, Request, State};
+use crate::model::{Cards, Request, State, Task, Value};
 use crate::named;
 use crate::random::Random;
 
@@ -168,7 +168,7 @@ fn k9_in_words() {
     assert!(shown(&registers, &channel) == state);
 }
 
-/// Queues that come round in their rings, a message held and one in flight.
+/// Queues that come round in their rings, messages held and in flight, tasks that are done.
 #[test]
 fn queues_in_words() {
     let placement = Placement::new(3, &[0, 2], &[(5, 0); 4]);
@@ -181,9 +181,17 @@ fn queues_in_words() {
     let reply = Message {
         task: 1,
         to: 4,
-        body: Body::Reply { value: 6 },
+        body: Body::Reply {
+            value: Value::Read(6),
+        },
     };
-    state.channel.outbox[2].extend([read(1, 1), read(0, 4)]);
+    let found = Message {
+        body: Body::Reply {
+            value: Value::Found(8),
+        },
+        ..reply
+    };
+    state.channel.outbox[2].extend([read(1, 1), read(0, 4), found]);
     state.channel.inbox[1].extend([reply, read(1, 2)]);
     state.channel.held[2] = vec![
         Tagged {
@@ -195,13 +203,16 @@ fn queues_in_words() {
             tag: 65_535,
         },
     ];
-    state.channel.flight[1] = Some(state.channel.held[2][0]);
+    let in_flight = |message, tag| Some(Tagged { message, tag });
+    state.channel.flight = vec![in_flight(found, 5), in_flight(reply, 9)];
+    state.tasks = vec![Task::Done(Value::Read(70)), Task::Done(Value::Found(80))];
     let [reads, replies] = [1 + 128 * 3, 3 + 8 + 128 * 2 + 4_096 * 7 + 32_768 * 4];
     let mut registers = [0; REGISTERS_WORDS];
     let mut channel = [0; CHANNEL_WORDS];
-    registers[3] = 4_096;
+    // A reply to an update is of the next kind.
+    registers[1..5].copy_from_slice(&[4, 70, 4_096 + 5, 80]);
     registers[33..37].fill(8 * 5);
-    registers[389..393].copy_from_slice(&[15, 2, reads + 32_768 * 4, 77]);
+    registers[389..395].copy_from_slice(&[15, 3, reads + 32_768 * 4, 77, replies + 1, 8]);
     registers[421..423].copy_from_slice(&[reads + 8 + 32_768, 0]);
     channel[..3].copy_from_slice(&[3, 2, 4]);
     channel[153..156].copy_from_slice(&[47, 2, 0]);
@@ -209,7 +220,7 @@ fn queues_in_words() {
     channel[156..158].copy_from_slice(&[reads + 8 + 32_768 * 2, 0]);
     channel[303] = 2;
     channel[400..406].copy_from_slice(&[replies, 6, 9, reads + 32_768 * 4, 0, 65_535]);
-    channel[1_191..1_194].copy_from_slice(&[replies, 6, 9]);
+    channel[1_188..1_194].copy_from_slice(&[replies + 1, 8, 5, replies, 6, 9]);
     assert!(well_sized(&registers, &channel));
     assert!(shown(&registers, &channel) == state);
 }

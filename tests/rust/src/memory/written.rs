@@ -8,7 +8,7 @@ use super::{ASKED, ASKED_FUNCTION, DESTINATIONS, DOING, FUNCTION, HOLDERS, HOME,
 use super::{CARDS, CHANNEL_WORDS, MADE, REGISTER, REGISTERS, REGISTERS_WORDS, REQUESTS};
 use super::{TAG, TASK, TASKS, VALUE};
 use crate::model::channel::{Body, Message, Tagged, HELD, INBOX, OUTBOX};
-use crate::model::{Request, State, Task};
+use crate::model::{Request, State, Task, Value};
 use crate::random::Random;
 
 /// Puts numbers in some fields of a word; the others stay as they were.
@@ -20,7 +20,7 @@ fn put(word: &mut u32, fields: &[(Field, u32)]) {
 
 /// A message over what lies there: fields and words that its kind does not use stay as they are.
 /// A reply has a register in memory, which the model leaves out: it is a present one.
-fn put_message(words: &mut [u32], message: &Message, registers: usize, random: &mut Random) {
+fn put_message(words: &mut [u32], message: &Message, registers: usize) {
     let present = REGISTER.of(words[0]) as usize % registers;
     let (kind, register, function, value) = match message.body {
         Body::Request(Request::Read { register }) => (1, register, None, None),
@@ -29,8 +29,13 @@ fn put_message(words: &mut [u32], message: &Message, registers: usize, random: &
             function,
             operand,
         }) => (2, register, Some(function), Some(operand)),
-        Body::Reply { value: 0 } if random.percent(50) => (4, present, None, None),
-        Body::Reply { value } => (3, present, None, Some(value)),
+        Body::Reply { value } => {
+            let kind = match value {
+                Value::Read(_) => 3,
+                Value::Found(_) => 4,
+            };
+            (kind, present, None, Some(value.word()))
+        }
     };
     put(
         &mut words[0],
@@ -49,13 +54,13 @@ fn put_message(words: &mut [u32], message: &Message, registers: usize, random: &
     }
 }
 
-fn put_tagged(words: &mut [u32], tagged: &Tagged, registers: usize, random: &mut Random) {
-    put_message(words, &tagged.message, registers, random);
+fn put_tagged(words: &mut [u32], tagged: &Tagged, registers: usize) {
+    put_message(words, &tagged.message, registers);
     words[TAG] = tagged.tag;
 }
 
 /// What a task is doing, over what lies there, in the same way.
-fn put_task(words: &mut [u32], task: &Task, random: &mut Random) {
+fn put_task(words: &mut [u32], task: &Task) {
     let (kind, value) = match *task {
         Task::Quiet => (0, None),
         Task::Asking(Request::Read { register }) => {
@@ -72,8 +77,8 @@ fn put_task(words: &mut [u32], task: &Task, random: &mut Random) {
             (2, Some(operand))
         }
         Task::Waiting => (3, None),
-        Task::Done(0) if random.percent(50) => (5, None),
-        Task::Done(value) => (4, Some(value)),
+        Task::Done(Value::Read(value)) => (4, Some(value)),
+        Task::Done(Value::Found(value)) => (5, Some(value)),
     };
     put(&mut words[0], &[(DOING, kind)]);
     if let Some(value) = value {
@@ -104,7 +109,7 @@ fn write_registers(state: &State, words: &mut [u32], random: &mut Random) {
     for (number, (home, doing)) in placement.home.iter().zip(&state.tasks).enumerate() {
         let words = &mut words[task(number)..];
         put(&mut words[0], &[(HOME, *home as u32)]);
-        put_task(words, doing, random);
+        put_task(words, doing);
     }
     for (number, place) in placement.registers.iter().enumerate() {
         let fields = [
@@ -122,7 +127,7 @@ fn write_registers(state: &State, words: &mut [u32], random: &mut Random) {
         words[outbox(number) + 1] = queue.len() as u32;
         for (place, message) in queue.iter().enumerate().take(OUTBOX) {
             let at = outbox_message(number, head + place);
-            put_message(&mut words[at..], message, registers, random);
+            put_message(&mut words[at..], message, registers);
         }
     }
 }
@@ -145,22 +150,22 @@ fn write_channel(state: &State, words: &mut [u32], random: &mut Random) {
         words[at + 1..at + 4].copy_from_slice(&lengths);
         for (place, message) in inbox.iter().enumerate().take(INBOX) {
             let at = inbox_message(number, head + place);
-            put_message(&mut words[at..], message, registers, random);
+            put_message(&mut words[at..], message, registers);
         }
         for (place, held) in held.iter().enumerate().take(HELD) {
             let at = held_message(number, place);
-            put_tagged(&mut words[at..], held, registers, random);
+            put_tagged(&mut words[at..], held, registers);
         }
     }
     for (number, single) in channel.flight.iter().enumerate() {
         let words = &mut words[flight_message(number)..];
         match single {
             None => put(&mut words[0], &[(KIND, 0)]),
-            Some(single) => put_tagged(words, single, registers, random),
+            Some(single) => put_tagged(words, single, registers),
         }
     }
     for (back, message) in channel.recent.iter().rev().enumerate() {
         let at = broadcast_message(channel.made - back as u32);
-        put_message(&mut words[at..], message, registers, random);
+        put_message(&mut words[at..], message, registers);
     }
 }

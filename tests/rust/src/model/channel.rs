@@ -2,7 +2,7 @@
 
 use std::collections::VecDeque;
 
-use super::{has, Card, Cards, Refusal, Request, TaskNumber};
+use super::{has, Card, Cards, Refusal, Request, TaskNumber, Value};
 
 // The limits: RULES 7.1 to 7.3, 7.7, 7.5, 7.6.
 pub const OUTBOX: usize = 16;
@@ -15,7 +15,7 @@ pub const UNDELIVERED: usize = 32;
 #[derive(Clone, Copy, Debug, PartialEq, Eq)]
 pub enum Body {
     Request(Request),
-    Reply { value: u32 },
+    Reply { value: Value },
 }
 
 #[derive(Clone, Copy, Debug, PartialEq, Eq)]
@@ -212,7 +212,8 @@ mod tests {
     use super::*;
 
     fn single(task: TaskNumber, to: Cards) -> Message {
-        let body = Body::Reply { value: task as u32 };
+        let value = Value::Read(task as u32);
+        let body = Body::Reply { value };
         Message { task, to, body }
     }
 

@@ -78,6 +78,7 @@ impl State {
 mod tests {
     use super::super::channel::{Body, Message, OUTBOX};
     use super::super::placement::Placement;
+    use super::super::Value;
     use super::*;
 
     const READ: Request = Request::Read { register: 0 };
@@ -122,7 +123,8 @@ mod tests {
         state.requests = REQUESTS;
         assert_eq!(result(&state, 1, [0; 8]), 20, "20 before 23");
         assert_eq!(result(&state, 10, [0; 8]), 21);
-        for task in [Task::Quiet, Task::Waiting, Task::Done(7)] {
+        let done = [Value::Found(7), Value::Read(7)].map(Task::Done);
+        for task in [Task::Quiet, Task::Waiting].into_iter().chain(done) {
             state.tasks[0] = task;
             for code in [3, 4, 5] {
                 assert_eq!(result(&state, code, [0; 8]), 21);
@@ -156,7 +158,9 @@ mod tests {
         assert_eq!(result(&state, 9, card), 6);
         state.channel.inbox[1][0].body = Body::Request(UPDATE);
         assert_eq!(result(&state, 9, card), 6);
-        state.channel.inbox[1][0].body = Body::Reply { value: 7 };
-        assert_eq!(result(&state, 9, card), 0);
+        for value in [Value::Read(7), Value::Found(7)] {
+            state.channel.inbox[1][0].body = Body::Reply { value };
+            assert_eq!(result(&state, 9, card), 0);
+        }
     }
 }

@@ -9,6 +9,7 @@ use crate::steps::{deliver, take_broadcast, take_single};
 
 /// A message of task 0 with its value, so that no two are alike.
 fn message(value: u32, to: Cards) -> Message {
+    let value = Value::Read(value);
     let body = Body::Reply { value };
     Message { task: 0, to, body }
 }
@@ -95,7 +96,7 @@ fn steps_about_a_held_message() {
     }
     assert_eq!(answers, [33, 100, 32, 33, 0, 0, 0, 33]);
     assert_eq!((tally.taken, tally.refused), (4, 4));
-    assert_eq!(state.tasks[0], Task::Done(7));
+    assert_eq!(state.tasks[0], Task::Done(Value::Read(7)));
 }
 
 /// K9 as RULES 4.7 has its answer, and its tally.

@@ -1,4 +1,4 @@
-//! The named runs on several cards: K9 to K12, and two held messages of one tag.
+//! The named runs on several cards: K9 to K12, two held messages of one tag, and numbers handed out.
 
 use super::{gives, held, refused, taken, told, Named, Told};
 use crate::model::placement::Placement;
@@ -71,6 +71,39 @@ pub fn k10() -> Named {
     told("K10", three_cards(), &steps)
 }
 
+/// Numbers handed out (RULES 13.4): the register lies on cards 0 and 1, and card 0 is its primary.
+pub fn tickets() -> Named {
+    let mut steps: Vec<_> = [set(0, 0, 7), send_update(0), dispatch(0)]
+        .map(taken)
+        .into();
+    steps.extend([
+        // Home applies it, and found 0.
+        taken(take_broadcast(0)),
+        taken(deliver(0)),
+        gives(report(0), 0),
+    ]);
+    steps.extend([request_update(2, 0, 2, 1), send_update(2), dispatch(2)].map(taken));
+    // The primary found 7, and its reply waits in the outbox.
+    steps.extend([take_broadcast(0), deliver(0)].map(taken));
+    steps.extend([request_update(1, 0, 5, 1), send_update(1), dispatch(1)].map(taken));
+    for _ in 0..3 {
+        steps.extend([take_broadcast(1), deliver(1)].map(taken));
+    }
+    steps.extend([
+        // Home, which is not the primary, found 8.
+        gives(report(1), 8),
+        taken(dispatch(0)),
+        // The reply has tag 2, and card 2 has taken nothing.
+        held(take_single(2)),
+        taken(take_broadcast(2)),
+        taken(take_broadcast(2)),
+        taken(deliver(2)),
+        gives(report(2), 7),
+    ]);
+    let placement = Placement::new(3, &[0, 1, 2], &[(0b011, 0)]);
+    told("tickets", placement, &steps)
+}
+
 /// Two messages of one tag join in order of arrival (RULES 6.5): task 2's was sent last and
 /// reaches card 1 first, so the last value there is task 0's.
 pub fn two_held() -> Named {
@@ -106,9 +139,13 @@ fn broadcast(number: u32) -> [Told; 3] {
     [set(0, 0, number), send_update(0), dispatch(0)].map(taken)
 }
 
-/// Card 0 takes and delivers the broadcast, and task 0 reports.
-fn at_home() -> [Told; 3] {
-    [take_broadcast(0), deliver(0), report(0)].map(taken)
+/// Card 0 takes and delivers the broadcast, and task 0 reports that it found the number before.
+fn at_home(number: u32) -> [Told; 3] {
+    [
+        taken(take_broadcast(0)),
+        taken(deliver(0)),
+        gives(report(0), number - 1),
+    ]
 }
 
 /// Card 1 takes nothing: broadcast 24 passes, 25 gives 34 (RULES 7.5).
@@ -116,7 +153,7 @@ pub fn k11() -> Named {
     let mut steps = Vec::new();
     for number in 1..=24 {
         steps.extend(broadcast(number));
-        steps.extend(at_home());
+        steps.extend(at_home(number));
     }
     steps.push(taken(set(0, 0, 25)));
     steps.push(taken(send_update(0)));
@@ -130,7 +167,7 @@ pub fn k12() -> Named {
     let mut steps = Vec::new();
     for number in 1..=33 {
         steps.extend(broadcast(number));
-        steps.extend(at_home());
+        steps.extend(at_home(number));
         steps.push(match number {
             33 => refused(take_broadcast(1), 35),
             _ => taken(take_broadcast(1)),

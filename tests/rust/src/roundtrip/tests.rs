@@ -45,12 +45,14 @@ fn files_and_texts_reach_everything() {
     less.sizes.remove(&("steps", 4_096));
     less.shown.remove("  bytes ");
     less.shown.remove(" held\n");
+    less.shown.remove(" taken, found ");
     less.shown.remove(&format!("  {:<22}", "or"));
     less.spoiled.remove("line L is one too many");
     let missing = [
         "files with steps 4096",
         "steps shown as or",
         "steps shown as bytes",
+        "steps shown as taken, found",
         "steps shown as held",
         "spoiled texts: line L is one too many",
     ];
@@ -80,12 +82,17 @@ fn a_wrong_view_is_noticed() {
     assert!(
         of(|e| ended(true, e.output, "well".into())).contains("view: it ends badly or says: well")
     );
-    // Nothing that `compose` would miss: another answer, and a line more.
-    let said = of(|e| {
+    // Nothing that `compose` would miss: other answers, and a line more.
+    fn other(e: Ended, from: &str, to: &str) -> Ended {
         let text = String::from_utf8(e.output).expect("a text");
-        writes(text.replace(" held\n", " taken\n").into())
-    });
-    assert!(said.contains("view: "));
+        writes(text.replace(from, to).into())
+    }
+    let answers = [
+        of(|e| other(e, " held\n", " taken\n")),
+        of(|e| other(e, ", found ", ", value ")),
+        of(|e| other(e, ", found 0\n", "\n")),
+    ];
+    assert!(answers.iter().all(|said| said.contains("view: ")));
     let said = of(|e| writes([&e.output[..], b"\n"].concat()));
     assert!(said.contains("view: ") && said.contains("the first other one at None"));
 }

@@ -22,7 +22,7 @@ fn counts_at_the_top() {
     let run = Run::read(&file("counts")).expect("an accepted file");
     let mut state = State::start(run.placement).expect("an accepted placement");
     let mut asked = [0; 2];
-    let mut given = Vec::new();
+    let (mut given, mut found) = (Vec::new(), Vec::new());
     for (code, argument) in run.steps {
         let (result, value) = state.step_reached(code, argument);
         let known = code != 2 || !matches!(argument[2], 0 | 6);
@@ -31,6 +31,7 @@ fn counts_at_the_top() {
         match code {
             1 | 2 => asked[task] = code,
             10 if asked[task] == 1 => given.push(value),
+            10 => found.push(value),
             _ => {}
         }
     }
@@ -39,6 +40,10 @@ fn counts_at_the_top() {
     let once = [stays, comes_round].concat();
     let twice: Vec<u32> = once.iter().flat_map(|&value| [value; 2]).collect();
     assert_eq!(given, [twice, once.clone(), once].concat());
+    // What was there is set to 4,294,967,294, and each sum finds what is then there.
+    let stays = [0, TOP - 1, TOP, TOP, TOP];
+    let comes_round = [TOP, TOP - 1, TOP, 0, TOP];
+    assert_eq!(found, [stays, comes_round].concat().repeat(3));
 }
 
 #[test]

@@ -15,8 +15,8 @@ enum-known-body c = search needs
 enum-known-body-2 : tie.Need-enum-known-body-2
 enum-known-body-2 c = search needs
 
-enum-told-2 : tie.Need-enum-told-2
-enum-told-2 c = search needs
+enum-known-body-3 : tie.Need-enum-known-body-3
+enum-known-body-3 c = search needs
 
 returns : tie.Need-returns
 unfolding valueOf
@@ -41,7 +41,7 @@ value-of-spec =
     enum-told
     enum-known-body
     enum-known-body-2
-    enum-told-2
+    enum-known-body-3
     returns
     returns-2
     returns-3

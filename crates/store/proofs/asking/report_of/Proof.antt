@@ -34,11 +34,14 @@ bare-requires-4 c κs = search needs
 enum-known-doing : tie.Need-enum-known-doing
 enum-known-doing c = search needs
 
-enum-told-5 : tie.Need-enum-told-5
-enum-told-5 c = search needs
+told-requires : tie.Need-told-requires
+told-requires c κs = search needs
 
-bare-requires-5 : tie.Need-bare-requires-5
-bare-requires-5 c κs = search needs
+enum-known-doing-2 : tie.Need-enum-known-doing-2
+enum-known-doing-2 c = search needs
+
+told-requires-2 : tie.Need-told-requires-2
+told-requires-2 c κs = search needs
 
 returns : tie.Need-returns
 unfolding reportOf
@@ -58,11 +61,11 @@ returns-4 c = rw (c .before .enum-told4 .given .1) (c .bare4 .ensures)
 
 returns-5 : tie.Need-returns-5
 unfolding reportOf
-returns-5 c = rw (c .before .doing .given .1)
+returns-5 c = rw (c .before .before .doing .given .1) (c .told .ensures)
 
 returns-6 : tie.Need-returns-6
 unfolding reportOf
-returns-6 c = rw (c .before .enum-told5 .given .1) (c .bare5 .ensures)
+returns-6 c = rw (c .before .before .doing2 .given .1) (c .told2 .ensures)
 
 pub report-of-spec : {M : Type 1} → statement M
 report-of-spec =
@@ -77,8 +80,9 @@ report-of-spec =
     enum-told-4
     bare-requires-4
     enum-known-doing
-    enum-told-5
-    bare-requires-5
+    told-requires
+    enum-known-doing-2
+    told-requires-2
     returns
     returns-2
     returns-3

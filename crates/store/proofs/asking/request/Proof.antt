@@ -17,7 +17,7 @@ quiet-kind (AskingRead x) = refl
 quiet-kind (AskingUpdate x f w) = refl
 quiet-kind Waiting = refl
 quiet-kind (DoneRead v) = refl
-quiet-kind DoneUpdate = refl
+quiet-kind (DoneUpdate v) = refl
 
 load-requires : tie.Need-load-requires
 load-requires c κs = search needs

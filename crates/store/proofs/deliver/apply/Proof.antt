@@ -14,7 +14,9 @@ end-update-requires c κs = search needs
 
 returns : tie.Need-returns
 unfolding applied
-returns c = simp (c .before .before .before .before .before .before .home .ensures, c .end-update .ensures, c .before .before .before .before .update-copy .ensures)
+returns c =
+    let u = c .before .before .before .before .update-copy .ensures in
+    (simp (c .before .before .before .before .before .before .home .ensures, c .end-update .ensures, u .0, u .1), u .1)
 
 pub apply-spec : {M : Type 1} → statement M
 apply-spec = tie.close (tie.spec home-requires update-copy-requires end-update-requires returns)

@@ -22,8 +22,8 @@ enum-known-body-2 c = search needs
 deliver-update-requires : tie.Need-deliver-update-requires
 deliver-update-requires c κs = search needs
 
-enum-told-2 : tie.Need-enum-told-2
-enum-told-2 c = search needs
+enum-known-body-3 : tie.Need-enum-known-body-3
+enum-known-body-3 c = search needs
 
 store-requires-2 : tie.Need-store-requires-2
 store-requires-2 c κs = search needs
@@ -42,7 +42,7 @@ returns-3 c = (rw (c .before .before .before .body2 .given .1) (c .deliver-updat
 
 returns-4 : tie.Need-returns-4
 unfolding bodyNumber bodyWords
-returns-4 c = (rw (c .before .before .enum-told2 .given .1) (c .store2 .ensures), rw (c .before .before .enum-told2 .given .1))
+returns-4 c = (rw (c .before .before .before .body3 .given .1) (c .store2 .ensures), rw (c .before .before .before .body3 .given .1))
 
 pub deliver-body-spec : {M : Type 1} → statement M
-deliver-body-spec = tie.close (tie.spec enum-told deliver-read-requires enum-known-body store-requires enum-known-body-2 deliver-update-requires enum-told-2 store-requires-2 returns returns-2 returns-3 returns-4)
+deliver-body-spec = tie.close (tie.spec enum-told deliver-read-requires enum-known-body store-requires enum-known-body-2 deliver-update-requires enum-known-body-3 store-requires-2 returns returns-2 returns-3 returns-4)

@@ -14,7 +14,7 @@ apply-requires c κs = search needs
 
 returns : tie.Need-returns
 unfolding bodyNumber bodyWords
-returns c = let z = sym (c .before .before .before .replies .ensures) ∙ not-true _ (c .before .before .if1 .taken) in (simp (z, c .apply .ensures), simp z)
+returns c = let z = sym (c .before .before .before .replies .ensures) ∙ not-true _ (c .before .before .if1 .taken) in (simp (z, c .apply .ensures .0), simp z)
 
 roomy-requires : tie.Need-roomy-requires
 roomy-requires c κs = search needs
@@ -31,7 +31,7 @@ reply-requires c κs = search needs
 
 returns-3 : tie.Need-returns-3
 unfolding bodyNumber bodyWords
-returns-3 c = let z = sym (c .before .before .before .before .before .before .before .before .replies .ensures) ∙ not-false _ (c .before .before .before .before .before .before .before .if1 .left) in let y = sym (c .before .before .before .before .before .roomy .ensures) ∙ not-false _ (c .before .before .before .before .if2 .left) in (rw (z, y) (rw (c .before .before .apply2 .ensures) at (c .reply .ensures)), rw (z, y))
+returns-3 c = let z = sym (c .before .before .before .before .before .before .before .before .replies .ensures) ∙ not-false _ (c .before .before .before .before .before .before .before .if1 .left) in let y = sym (c .before .before .before .before .before .roomy .ensures) ∙ not-false _ (c .before .before .before .before .if2 .left) in (rw (z, y) (rw (c .before .before .apply2 .ensures .0, c .before .before .apply2 .ensures .1) at (c .reply .ensures)), rw (z, y))
 
 pub deliver-update-spec : {M : Type 1} → statement M
 deliver-update-spec = tie.close (tie.spec replies-requires apply-requires returns roomy-requires returns-2 apply-requires-2 reply-requires returns-3)

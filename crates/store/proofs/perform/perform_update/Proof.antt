@@ -30,7 +30,7 @@ store-requires c κs = search needs
 
 returns-2 : tie.Need-returns-2
 unfolding performUpdateNumber performUpdateWords
-returns-2 c = let z = rw (c .before .before .before .before .before .before .before .home .ensures) at (sym (c .before .before .before .before .before .alone .ensures) ∙ not-false _ (c .before .before .before .before .if1 .left)) in (simp (z, c .store .ensures, c .before .before .update-copy .ensures, c .before .before .before .before .before .before .before .home .ensures), simp z)
+returns-2 c = let z = rw (c .before .before .before .before .before .before .before .home .ensures) at (sym (c .before .before .before .before .before .alone .ensures) ∙ not-false _ (c .before .before .before .before .if1 .left)) in (simp (z, c .store .ensures, c .before .before .update-copy .ensures .0, c .before .before .update-copy .ensures .1, c .before .before .before .before .before .before .before .home .ensures), simp z)
 
 pub perform-update-spec : {M : Type 1} → statement M
 perform-update-spec =

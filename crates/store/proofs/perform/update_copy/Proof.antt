@@ -24,11 +24,11 @@ register-place-requires c κs = search needs
 add-at-2 : tie.Need-add-at-2
 add-at-2 c = search needs
 
-mul-value : tie.Need-mul-value
-mul-value c = search needs
+mul-found : tie.Need-mul-found
+mul-found c = search needs
 
-element-copy-out-value : tie.Need-element-copy-out-value
-element-copy-out-value c = search needs
+element-copy-out-found : tie.Need-element-copy-out-found
+element-copy-out-found c = search needs
 
 update-requires : tie.Need-update-requires
 update-requires c κs = search needs
@@ -41,7 +41,10 @@ element-write-registers c = search needs
 
 returns : tie.Need-returns
 unfolding copyUpdated
-returns c = simp (← (c .before .before .before .card-place .ensures .0), ← (c .before .before .register-place .ensures .0), c .update .ensures)
+returns c = (
+  simp (← (c .before .before .before .card-place .ensures .0), ← (c .before .before .register-place .ensures .0), c .update .ensures),
+  simp (← (c .before .before .before .card-place .ensures .0), ← (c .before .before .register-place .ensures .0), c .update .ensures),
+)
 
 pub update-copy-spec : {M : Type 1} → statement M
 update-copy-spec =
@@ -52,8 +55,8 @@ update-copy-spec =
     add-at
     register-place-requires
     add-at-2
-    mul-value
-    element-copy-out-value
+    mul-found
+    element-copy-out-found
     update-requires
     mul-registers
     element-write-registers

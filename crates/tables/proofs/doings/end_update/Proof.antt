@@ -13,13 +13,13 @@ use Rattle.tables.proofs.doings.end_update.Statement.{statement}
 use Rattle.tables.proofs.doings.end_update.Tie as tie
 
 -- both words, as they are written
-ended : (ws : List ℕ) (t : ℕ) (done : Bool)
-    → set (set ws (taskWord t) (bitOr (cond done (taskWordOf (homeOf ws t) DoneUpdate) 0) (cond (not done) (getD ws (taskWord t) 0) 0))) (valueWord t)
-    (cond (not done) (getD ws (valueWord t) 0) 0)
-    ≡ cond done (doingStored ws t DoneUpdate) ws
+ended : (ws : List ℕ) (t : ℕ) (done : Bool) (v : ℕ)
+    → set (set ws (taskWord t) (bitOr (cond done (taskWordOf (homeOf ws t) (DoneUpdate v)) 0) (cond (not done) (getD ws (taskWord t) 0) 0))) (valueWord t)
+    (bitOr (cond done v 0) (cond (not done) (getD ws (valueWord t) 0) 0))
+    ≡ cond done (doingStored ws t (DoneUpdate v)) ws
 unfolding doingStored doingValue
-ended ws t true = rw (or-zero-r (taskWordOf (homeOf ws t) DoneUpdate))
-ended ws t false = rw (or-zero-l (getD ws (taskWord t) 0), set-getD ws (taskWord t) 0) (set-getD ws (valueWord t) 0)
+ended ws t true v = rw (or-zero-r (taskWordOf (homeOf ws t) (DoneUpdate v)), or-zero-r v)
+ended ws t false v = rw (or-zero-l (getD ws (taskWord t) 0), or-zero-l (getD ws (valueWord t) 0), set-getD ws (taskWord t) 0) (set-getD ws (valueWord t) 0)
 
 task-place-requires : tie.Need-task-place-requires
 task-place-requires c κs = search needs
@@ -66,6 +66,9 @@ element-write-registers c = search needs
 picked-requires-3 : tie.Need-picked-requires-3
 picked-requires-3 c κs = search needs
 
+picked-requires-4 : tie.Need-picked-requires-4
+picked-requires-4 c κs = search needs
+
 add-registers : tie.Need-add-registers
 add-registers c = search needs
 
@@ -77,12 +80,19 @@ element-write-registers-2 c = search needs
 
 returns : tie.Need-returns
 returns c =
+    let a = c .before .before .before .before .before .before .before .before .before .args in
     rw (
-      ← (ended (c .before .before .before .before .before .before .before .before .args .registers .now)
-          (c .before .before .before .before .before .before .before .before .args .task .0) (c .before .before .before .before .before .before .before .before .args .done)),
-      ← (c .before .before .before .before .before .before .before .task-place .ensures .0),
+      ← (ended (a .registers .now) (a .task .0) (a .done) (a .found)),
+      ← (c .before .before .before .before .before .before .before .before .task-place .ensures .0),
     )
-    (simp (c .before .before .picked .ensures, c .before .picked2 .ensures, c .picked3 .ensures, c .before .before .before .word-of .ensures, c .before .before .before .before .home-in .ensures .0))
+    (simp (
+      c .before .before .before .picked .ensures,
+      c .before .before .picked2 .ensures,
+      c .before .picked3 .ensures,
+      c .picked4 .ensures,
+      c .before .before .before .before .word-of .ensures,
+      c .before .before .before .before .before .home-in .ensures .0,
+    ))
 
 pub end-update-spec : {M : Type 1} → statement M
 end-update-spec =
@@ -103,6 +113,7 @@ end-update-spec =
     mul-registers
     element-write-registers
     picked-requires-3
+    picked-requires-4
     add-registers
     mul-registers-2
     element-write-registers-2

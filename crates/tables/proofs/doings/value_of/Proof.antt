@@ -21,8 +21,8 @@ enum-told-3 c = search needs
 enum-known-doing-2 : tie.Need-enum-known-doing-2
 enum-known-doing-2 c = search needs
 
-enum-told-4 : tie.Need-enum-told-4
-enum-told-4 c = search needs
+enum-known-doing-3 : tie.Need-enum-known-doing-3
+enum-known-doing-3 c = search needs
 
 returns : tie.Need-returns
 unfolding doingValue
@@ -57,7 +57,7 @@ value-of-spec =
     enum-known-doing
     enum-told-3
     enum-known-doing-2
-    enum-told-4
+    enum-known-doing-3
     returns
     returns-2
     returns-3

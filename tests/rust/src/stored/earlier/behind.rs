@@ -2,7 +2,7 @@
 //! which some card was then further behind than it can be now is worked out again; any other is
 //! answered as it was.
 
-use super::{answered, checksum, held_as_taken, read, statistics, FILES};
+use super::{answered, before_held, checksum, read, statistics, FILES};
 use crate::generate;
 use crate::model::channel::BEHIND;
 use crate::model::files::{program_output, Run};
@@ -31,8 +31,9 @@ fn past(file: &[u8]) -> bool {
 
 /// The results of then and now at the first step where they are not the same.
 fn changed(file: &[u8]) -> Option<(u8, u8)> {
-    let now = held_as_taken(program_output(file));
-    let mut bytes = answered(&read(file)).into_iter().zip(now);
+    let run = read(file);
+    let now = before_held(&run, program_output(file));
+    let mut bytes = answered(&run).into_iter().zip(now);
     // The results come before the values (RULES 4.1), so this is one of them.
     bytes.find(|(then, now)| then != now)
 }

@@ -3,11 +3,11 @@
 //! passes the top with function 2, or has a function 5, was worked out again; any other was answered as
 //! before. The limit of 0.4.0 was that of 0.2.0 too, so all of this is with that one.
 
-use super::{answered, checksum, read, statistics};
+use super::{answered, checksum, named_then, read, statistics};
 use crate::generate;
 use crate::model::files::Run;
 use crate::statistics::Sum;
-use crate::{named, stored};
+use crate::stored;
 
 /// Each run stored then, the checksum of its answer, and whether that was worked out again.
 const RUNS: [(&str, u64, bool); 9] = [
@@ -68,7 +68,7 @@ fn stored_answers() {
 
 #[test]
 fn named_runs() {
-    let accepted = named::runs().into_iter().filter(|run| run.answer.is_ok());
+    let accepted = named_then().into_iter().filter(|run| run.answer.is_ok());
     for run in accepted {
         let again = run.name == "counter";
         assert_eq!(touched(&run.file), again, "{}", run.name);

@@ -1,19 +1,18 @@
 //! What version 0.6.0 stored, when a step 8 whose message is held had the result 0 of any taken step (RULES
-//! 5.8). With each 100 made 0 again, and each `held` of a text `taken`, all is as it was, byte for byte. And a
-//! step has 100 just where the state after it holds its message.
+//! 5.8). With what `found` undoes, each 100 made 0 again, and each `held` of a text `taken`, all is as it was,
+//! byte for byte. And a step has 100 just where the state after it holds its message.
 
-use std::collections::BTreeSet;
-
-use super::{checksum, held_as_taken, FILES};
+use super::folders::Folder;
+use super::{checksum, compare_named, compare_stored, found, held_as_taken, Row};
 use crate::folder::File;
 use crate::generate;
 use crate::model::files::{program_output, Run};
 use crate::model::results::taken;
 use crate::model::State;
-use crate::{compose, named, say, stored, view};
+use crate::{compose, say, view};
 
 /// Each run stored then, the checksum of its answer, and how many of its results are 100 now.
-const RUNS: [(&str, u64, usize); 17] = [
+const RUNS: [Row; 17] = [
     ("past1", 0x75CD_CC81_E88B_D349, 0),
     ("past2", 0xD2BD_32F5_39E4_571C, 0),
     ("past3", 0x502D_8005_2BAD_B3DB, 0),
@@ -33,8 +32,8 @@ const RUNS: [(&str, u64, usize); 17] = [
     ("full4", 0xE356_23EB_B9C7_6F6A, 63),
 ];
 
-/// The same of the named runs; a refused file is answered with its refusal.
-const NAMED: [(&str, u64, usize); 15] = [
+/// The same of the named runs.
+const NAMED: [Row; 15] = [
     ("K1", 0x0832_8807_B4EB_6FED, 0),
     ("K2", 0xE1C0_AEC4_0A3F_AA56, 0),
     ("K3", 0xAF63_BC4C_8601_B62C, 0),
@@ -51,16 +50,6 @@ const NAMED: [(&str, u64, usize); 15] = [
     ("K11", 0x6BAA_6DCE_868F_BE1C, 0),
     ("K12", 0xB34B_1BA8_14A0_0CE3, 0),
 ];
-
-/// The cases that a program keeps.
-struct Folder {
-    files: fn() -> Vec<File>,
-    /// Of all that was kept then, name after name.
-    then: u64,
-    /// Kept then, and another now.
-    changed: &'static [&'static str],
-    new: &'static [&'static str],
-}
 
 const FOLDERS: [Folder; 3] = [
     Folder {
@@ -147,61 +136,27 @@ fn holds(name: &str, file: &[u8]) -> usize {
 }
 
 /// Holds an answer of now to that of then.
-fn compare(name: &str, answer: Vec<u8>, then: u64, count: usize) {
+fn compare(name: &str, file: &[u8], answer: Vec<u8>, then: u64, count: usize) {
     assert_eq!(hundreds(&answer), count, "{name}");
-    assert_eq!(checksum(&held_as_taken(answer)), then, "{name}");
+    let was = held_as_taken(found::answer_of_then(file, answer));
+    assert_eq!(checksum(&was), then, "{name}");
+    assert_eq!(holds(name, file), count, "{name}");
 }
 
 #[test]
 fn stored_answers() {
-    assert!(RUNS.iter().map(|run| run.0).eq(FILES.map(|file| file.0)));
-    let names: BTreeSet<&str> = stored::runs().iter().map(|run| run.name).collect();
-    assert_eq!(names, RUNS.iter().map(|run| run.0).collect());
-    for (name, then, count) in RUNS {
-        let file = stored::file(name);
-        compare(name, program_output(&file), then, count);
-        assert_eq!(holds(name, &file), count, "{name}");
-    }
+    compare_stored(RUNS, compare);
 }
 
-/// As their answers were written by hand.
 #[test]
 fn named_runs() {
-    let runs = named::runs();
-    assert!(runs.iter().map(|run| run.name).eq(NAMED.map(|run| run.0)));
-    for (run, (name, then, count)) in runs.into_iter().zip(NAMED) {
-        let answer = run.answer.unwrap_or_else(|refusal| vec![refusal]);
-        compare(name, answer, then, count);
-        assert_eq!(holds(name, &run.file), count, "{name}");
-    }
+    compare_named(NAMED, compare);
 }
 
 #[test]
 fn cases_of_programs() {
-    for Folder {
-        files,
-        then,
-        changed,
-        new,
-    } in FOLDERS
-    {
-        let mut files = files();
-        files.sort();
-        let (since, kept): (Vec<_>, Vec<_>) = files
-            .into_iter()
-            .partition(|(name, _)| new.contains(&name.as_str()));
-        assert!(since.iter().map(|(name, _)| name).eq(new));
-        let mut all = Vec::new();
-        let mut others = Vec::new();
-        for file in &kept {
-            let was = file_of_then(file);
-            if was != file.1 {
-                others.push(file.0.as_str());
-            }
-            all.extend(file.0.bytes().chain(was));
-        }
-        assert_eq!(others, changed);
-        assert_eq!(checksum(&all), then, "{changed:?}");
+    for folder in FOLDERS {
+        folder.compare(found::files_of_then((folder.files)()), file_of_then);
     }
 }
 

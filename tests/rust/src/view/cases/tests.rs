@@ -27,16 +27,24 @@ fn phrases() {
         assert_eq!(text.contains(&words), !matches!(number, 6 | 23), "{words}");
     }
     for name in NAMES {
-        let line = |line: &str| line[6..].starts_with(name) && line.ends_with("taken");
+        // A report gives what was read or found.
+        let answers: &[&str] = match name {
+            "report" => &["taken, value 5", "taken, found 5"],
+            _ => &["taken"],
+        };
         let steps = text.lines().filter(|line| line.len() > 79);
-        let reports = text.lines().any(|line| line.ends_with("taken, value 5"));
-        assert!(steps.clone().any(line) || name == "report" && reports);
+        for answer in answers {
+            let line = |line: &str| line[6..].starts_with(name) && line[79..] == **answer;
+            assert!(steps.clone().any(line), "{name} {answer}");
+        }
     }
     for name in NAMED_FUNCTIONS {
         let column = |line: &str| line.get(46..).is_some_and(|rest| rest.starts_with(name));
         assert!(text.lines().any(column), "{name}");
     }
-    assert!(text.contains("taken, value 0\n"));
+    for answer in ["value 0", "found 0", "found 4294967295"] {
+        assert!(text.contains(&format!(" taken, {answer}\n")), "{answer}");
+    }
     assert!(text.contains(&format!("take single     task   2{:49}held\n", "")));
     // 4,294,967,295 and 3 with function 2, then 3 more with function 5.
     assert!(text.contains("taken, value 2\n"));
@@ -108,5 +116,7 @@ fn full() {
     assert_eq!((case.name, case.file.len()), ("full", 36_949));
     let text = view(&case.file);
     assert!(text.contains("\n4095  "));
-    assert!(text.contains("refused") && text.contains(", value ") && text.contains("bytes"));
+    for words in ["refused", ", value ", ", found ", "bytes"] {
+        assert!(text.contains(words), "{words}");
+    }
 }
