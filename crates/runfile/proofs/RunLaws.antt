@@ -1,4 +1,4 @@
--- The run of an accepted file: the store's answers, step by step, are those of the published algorithm.
+-- The run of an accepted file: the store's answers, step by step, are those of the algorithm that it runs.
 use Prim.Native.Nat.{ℕ, _+_, _*_, _≤_}
 use mathlib.Core.Path.{_≡_, sym, ap, ap₂, _∙_}
 use mathlib.Core.List.{List}

@@ -1,6 +1,6 @@
 -- The channel's calls as the registers see them
 pub mod OverChannel
--- Each of the ten steps follows the published algorithm
+-- Each of the ten steps follows the algorithm that the store runs
 pub mod Standing
 pub mod RequestLaw
 pub mod PerformLaw

@@ -42,7 +42,7 @@ k12-results : map (λ a. a .result) (answersFrom crowd begin k12) ≡ thenRefuse
 unfolding resultFrom decode known unnamedZero taskThere registerThere cardThere functionThere knownFunction namesTask namesCard namesRegister namesChosen namesFunction operand commandOf each memberOf several single sizeOf soleOf justOf total turns updated raised largerOf sumOf eqb leb
 k12-results = refl
 
--- the store answers as the published algorithm does
+-- the store answers as the algorithm that it runs does
 stored : (m : Store) (l : List RawStep) → resultsOf m l ≡ map (λ a. a .result) (answersFrom crowd begin l)
 stored m l = ap (map (λ a. a .result)) (answers-same crowd (started crowd m) begin l (start-stands crowd crowd-accepted m))
 

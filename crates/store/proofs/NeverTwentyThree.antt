@@ -1,4 +1,4 @@
--- A list of at most 65,535 steps from a start never meets 23: the published algorithm's answers are the store's, and it does not.
+-- A list of at most 65,535 steps from a start never meets 23: the store's answers are those of the algorithm that it runs, and that does not.
 use mathlib.Core.Path.{subst}
 use native.Mathlib.Omega.{arith}
 use Rattle.lists.specs.Histories.{In}

@@ -1,8 +1,9 @@
 //! Is there a serial order (RULES 12.8)? Tried by brute force, for runs with few operations.
 //!
 //! The question is put to the answers alone: which requests were taken and what the reports
-//! gave, a read what it read, an update what it found. So only 12.8 b and c are asked of the order; that an operation that isn't reported may be
-//! in it or not asks less than 12.8 a, and copies are not looked at.
+//! gave, a read what it read, an update what it found. So only 12.8 b and c are asked of the order;
+//! that an operation that isn't reported may be in it or not asks less than 12.8 a, and copies are not
+//! looked at.
 
 use std::collections::HashSet;
 
