@@ -59,18 +59,19 @@ function check(k, end, form) {
     if (word[k] == "use" && (file !~ /\.rt$/ || word[k - 1] == "ghost")) { k = import(k); continue }
     if (file in limits) continue
     if (word[k] ~ /(^|\.)(Rattle·|lib\.|mathlib\.)/) say("a name written out, " word[k])
-    if (who != "store") continue
+    if (who != "store" && who != "logs") continue
     if (word[k] == "unfolding" || word[k] == "unfold") {
       end = word[k] == "unfold" ? "in" : "="
       for (k++; k <= count && word[k] != end; k++)
         if (last(word[k]) in opens || (file, word[k]) in imported) say("opens the channel's " last(word[k]))
     }
+    if (word[k] == "open") say("names the fields of a record by open")
+    if (word[k] ~ /\.(sent|flight|held|inbox)$/ && !((file, word[k]) in queue)) say("looks at a queue of the channel, " word[k])
+    if (who != "store") continue
     if (word[k] in words) {
       form = word[k + 1] == "(" ? "(" word[k + 2] : word[k + 1]
       if (!(("*", form) in memory) && !((file, form) in memory)) say("a word of something else than the registers' memory: " word[k] " " form)
     }
-    if (word[k] == "open") say("names the fields of a record by open")
-    if (word[k] ~ /\.(sent|flight|held|inbox)$/ && !((file, word[k]) in queue)) say("looks at a queue of the channel, " word[k])
     memories(k)
   }
 }

@@ -1,7 +1,8 @@
 /* The proved register store for firmware, in C11 and C++ (x86-64 Linux). `firmware/install PREFIX`
  * installs it; then `cc main.c $(pkg-config --cflags --libs gondzselu)`. The rules are in
  * docs/RULES.md and cited by number ("RULES 8.5"): what the steps do, when they are refused, what
- * is promised of a run. firmware/c/k9.c is a first program; tickets.c there hands out numbers.
+ * is promised of a run. firmware/c/k9.c is a first program; tickets.c there hands out numbers, and
+ * totals.c adds up a log.
  *
  * Memory    A store is two memories that the caller lends, changed in place, aligned as uint32_t:
  *           7,508 bytes. Each has its type, so that swapped ones do not compile (older C compilers
@@ -32,7 +33,7 @@ extern "C" {
 /* ---- version */
 
 #define GONDZSELU_VERSION_MAJOR 0
-#define GONDZSELU_VERSION_MINOR 8
+#define GONDZSELU_VERSION_MINOR 9
 #define GONDZSELU_VERSION_PATCH 0
 #define GONDZSELU_VERSION \
     (GONDZSELU_VERSION_MAJOR * 1000000 + GONDZSELU_VERSION_MINOR * 1000 + GONDZSELU_VERSION_PATCH)
@@ -116,15 +117,16 @@ enum gondzselu_condition {
     GONDZSELU_DONE_UPDATE = 5 /* with the value found: the copy's, just before the update */
 };
 
-/* What the calls give (RULES 8.2). A refusal changes nothing that is lent; but the value of a step
- * and the length of a sentence or of a written file are then 0, and a tally counts the step. */
+/* What the calls give (RULES 8.2). A refusal changes nothing that is lent; but the value of a step,
+ * the length of a sentence or of a written file and the total of a log are then 0, and a tally
+ * counts the step. */
 enum gondzselu_refusal {
-    GONDZSELU_TAKEN = 0, /* no refusal: the step is taken; the file or placement is accepted */
+    GONDZSELU_TAKEN = 0, /* no refusal: the step is taken; file, placement or log is accepted */
     GONDZSELU_HELD = 100, /* no refusal: step 8 is taken, and its message is held (RULES 5.8) */
-    /* of a file or a placement */
+    /* of a file, a placement or a log */
     GONDZSELU_FILE_TOO_SHORT = 1,
     GONDZSELU_FILE_TOO_LONG = 2,
-    GONDZSELU_SIZE_OUT_OF_RANGE = 3, /* or tables of unequal length */
+    GONDZSELU_SIZE_OUT_OF_RANGE = 3, /* or tables, or the lists of a log, of unequal length */
     GONDZSELU_MISPLACED = 4, /* no copy, a copy or home on an absent card, a bad primary */
     /* of lent memory */
     GONDZSELU_OUTPUT_TOO_SHORT = 5,
@@ -134,7 +136,7 @@ enum gondzselu_refusal {
     GONDZSELU_BYTE_NOT_ZERO = 11, /* one that the code does not name */
     GONDZSELU_NO_SUCH_TASK = 12,
     GONDZSELU_NO_SUCH_REGISTER = 13,
-    GONDZSELU_NO_SUCH_CARD = 14,
+    GONDZSELU_NO_SUCH_CARD = 14, /* of a log: a card number above 7 */
     GONDZSELU_NO_SUCH_FUNCTION = 15,
     /* of a task */
     GONDZSELU_NOT_QUIET = 20,
@@ -305,6 +307,23 @@ uint8_t gondzselu_write(uint32_t cards, const uint8_t *homes, size_t homes_lengt
  * sentence stay as they were. Writes the length in every case: of the sentence, or 0. */
 uint8_t gondzselu_sentence(uint32_t step, uint8_t refusal,
                            uint8_t *output, size_t output_length, uint32_t *length);
+
+/* ---- totals by card */
+
+/* Adds up a log of a register (RULES 16), modulo 4,294,967,296: two lists over updates of it by
+ * function 5, the home card of each one's task and each one's operand. Any two lists may be handed
+ * in, of any length. If the register's primary has applied these updates and no others, the total
+ * is the value of its copy (RULES 16.7). Gives 0; or 3 for lists of unequal length, then 14 for a
+ * card number above 7, whatever number of cards a store has. Writes the total in every case: the
+ * sum, which is 0 for empty lists; 0 with a refusal. */
+uint8_t gondzselu_total(const uint8_t *cards, size_t cards_length,
+                        const uint32_t *operands, size_t operands_length, uint32_t *total);
+
+/* The same, added up card by card, then over the eight cards. For every two lists both give the
+ * same number and write the same total (RULES 16.5). */
+uint8_t gondzselu_total_by_card(const uint8_t *cards, size_t cards_length,
+                                const uint32_t *operands, size_t operands_length,
+                                uint32_t *total);
 
 /* ---- what a panel reads: these write nothing, check nothing and refuse nothing (RULES 11.7). What
  * is read with no step between is one moment. */

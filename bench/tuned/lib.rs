@@ -28,10 +28,12 @@ mod sized;
 mod tasks;
 #[cfg(test)]
 mod tests;
+mod total;
 mod word;
 mod write;
 
 pub use run::answer;
+pub use total::{total, total_by_card};
 use word::{Message, READ, UPDATE};
 pub use write::{write, Tables};
 

@@ -15,6 +15,7 @@ ghost use Rattle.firmware.specs.RunTally.{ranTally};
 ghost use Rattle.firmware.specs.StepTally.{countsOf};
 ghost use Rattle.tally.specs.Tally.{countedStep};
 ghost use Rattle.words.specs.Sentence.{saidOf, sentenceOutput};
+ghost use Rattle.totals.specs.Totals.{totalOf, totalByCard};
 use names::Card;
 use names::Register;
 use names::Task;
@@ -39,9 +40,9 @@ pub extern "C" fn gondzselu_channel_words() -> usize
 // The version of what is offered: major * 1,000,000 + minor * 1,000 + patch.
 #[no_mangle]
 pub extern "C" fn gondzselu_version() -> u32
-    ensures { λ r. ⌜ r ≡ 8000 ⌝ }
+    ensures { λ r. ⌜ r ≡ 9000 ⌝ }
 {
-    8000
+    9000
 }
 
 // ---- a whole run
@@ -235,6 +236,30 @@ pub extern "C" fn gondzselu_sentence(step: u32, refusal: u8, out: &mut [u8], len
 {
     let said = words::sentence(step, refusal, out);
     *length = said.length;
+    said.refusal
+}
+
+// ---- totals of a log: home cards and operands of updates by function 5, in two parallel lists
+
+// The operands added as they stand: 0 and the total, or 3 for lists of unequal length, then 14 for a card number above 7, and 0.
+#[no_mangle]
+pub extern "C" fn gondzselu_total(cards: &[u8], operands: &[u32], total: &mut u32) -> u8
+    ensures total { λ _. ⌜ now (total .exit) ≡ totalOf (now (cards .entry)) (now (operands .entry)) .total ⌝ }
+    ensures number { λ r. ⌜ r ≡ totalOf (now (cards .entry)) (now (operands .entry)) .refusal ⌝ }
+{
+    let said = totals::total(cards, operands);
+    *total = said.total;
+    said.refusal
+}
+
+// Each card's operands, then these sums: the same (totals, specs/TotalsMeaning, `TotalsSame`).
+#[no_mangle]
+pub extern "C" fn gondzselu_total_by_card(cards: &[u8], operands: &[u32], total: &mut u32) -> u8
+    ensures total { λ _. ⌜ now (total .exit) ≡ totalByCard (now (cards .entry)) (now (operands .entry)) .total ⌝ }
+    ensures number { λ r. ⌜ r ≡ totalByCard (now (cards .entry)) (now (operands .entry)) .refusal ⌝ }
+{
+    let said = totals::total_by_card(cards, operands);
+    *total = said.total;
     said.refusal
 }
 

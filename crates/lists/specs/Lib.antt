@@ -4,6 +4,7 @@ pub mod All
 pub mod Every
 pub mod Loops
 pub mod Made
+pub mod Rearranging
 pub mod Parts
 pub mod Listings
 pub mod Places

@@ -1,10 +1,14 @@
 -- A list given by what stands at each place: an array's first n elements, or n elements of a ring of slots from a head on.
 use Prim.Native.Nat.{ℕ, zero, suc, _+_, _%_, _<_}
 use mathlib.Core.Path.{_≡_, refl, sym, ap, ap₂, _∙_}
+use mathlib.Core.Bool.{cond}
 use mathlib.Core.List.{List, [], _∷_, _++_, map, append-assoc, append-nil}
+use native.Mathlib.Decide.{ℕ-discrete}
 use native.Mathlib.Omega.{arith}
-use lib.ListN.{length, length-append, getD}
-use lib.Seq.{getD-append-add}
+use lib.Dec.{eqb}
+use lib.ListN.{length, length-append, length-set, getD, set}
+use lib.Seq.{getD-append-add, getD-set-same, getD-set-other}
+use Rattle.lists.specs.Tests.{eqb-of, eqb-not}
 
 -- f 0, f 1, .. , f (n - 1)
 unfoldable pub listing {ℓ} : {A : Type ℓ} → (ℕ → A) → ℕ → List A
@@ -70,3 +74,14 @@ listing-add f m (suc n) =
     ∙ ap (λ l. l ++ (f (m + n) ∷ [])) (listing-add f m n)
     ∙ append-assoc (listing f m) (listing (λ k. f (m + k)) n) (f (m + n) ∷ [])
     ∙ ap (λ l. listing f m ++ l) (sym (listing-snoc (λ k. f (m + k)) n))
+
+-- one of them replaced
+pub listing-set : {A : Type 0} (f : ℕ → A) (n i : ℕ) (v : A) → i < n → set (listing f n) i v ≡ listing (λ k. cond (eqb k i) v (f k)) n
+listing-set f n i v h =
+    sym (listing-all (set (listing f n) i v) v)
+    ∙ ap (listing (λ k. getD (set (listing f n) i v) k v)) (length-set (listing f n) i v ∙ listing-length f n)
+    ∙ listing-cong (λ k. getD (set (listing f n) i v) k v) (λ k. cond (eqb k i) v (f k)) n (λ k g. at k g (ℕ-discrete k i))
+  where
+    at : (k : ℕ) → k < n → Dec (k ≡ i) → getD (set (listing f n) i v) k v ≡ cond (eqb k i) v (f k)
+    at k g (yes e) = rw (eqb-of e, e) (getD-set-same (listing f n) i v v (omega (arith, listing-length f n)))
+    at k g (no q) = rw (eqb-not q) (getD-set-other (listing f n) i k v v q ∙ listing-at f n k v g)

@@ -1,6 +1,6 @@
 -- What elements make of a value, one after the other, and when their order makes no difference.
 use mathlib.Core.Path.{_≡_, refl, ap, _∙_}
-use mathlib.Core.List.{List, [], _∷_}
+use mathlib.Core.List.{List, [], _∷_, _++_}
 use Prim.Native.Nat.{ℕ}
 
 -- the same elements, each as often, in any order
@@ -14,6 +14,11 @@ module _ {Val : Type 0} (fun : ℕ → Val → Val) where
   abbrev pub make : Val → List ℕ → Val
   make v [] = v
   make v (k ∷ l) = make (fun k v) l
+
+  -- of two lists in a row
+  pub made-append : (v : Val) (l r : List ℕ) → make v (l ++ r) ≡ make (make v l) r
+  made-append v [] r = refl
+  made-append v (k ∷ l) r = made-append (fun k v) l r
 
   -- where two in a row may change places, so may all
   pub made-rearranged : ((j k : ℕ) (v : Val) → fun k (fun j v) ≡ fun j (fun k v)) → {l r : List ℕ} → Rearranged l r → (v : Val) → make v l ≡ make v r

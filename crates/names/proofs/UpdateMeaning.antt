@@ -83,11 +83,11 @@ updates-mean v w h g = record {
 
 -- ---- many updates
 
-abbrev add : ℕ → ℕ → ℕ
+abbrev pub add : ℕ → ℕ → ℕ
 add w s = s + w
 
 -- added up from v: v more than from 0
-added-from : (v : ℕ) (ws : List ℕ) → make add v ws ≡ v + make add 0 ws
+pub added-from : (v : ℕ) (ws : List ℕ) → make add v ws ≡ v + make add 0 ws
 added-from v [] = omega arith
 added-from v (w ∷ ws) = go (added-from (v + w) ws) (added-from (0 + w) ws)
   where

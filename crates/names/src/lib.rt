@@ -140,7 +140,7 @@ fn larger(value: u32, operand: u32) -> u32
 }
 
 // Function 5: an add that comes round to zero.
-fn sum(value: u32, operand: u32) -> u32
+pub fn sum(value: u32, operand: u32) -> u32
     ensures { λ r. ⌜ r ≡ sumOf value operand ⌝ }
 {
     std::num::wrapping_add_u32(value, operand)

@@ -46,7 +46,8 @@
 //! found, and of step 8 whether its message is held. So a counter hands out numbers: tasks that add
 //! 1 to a register are told different ones (RULES 5.15, `examples/tickets.rs`). A whole run file is
 //! answered by [`answer`], and written from a placement and [`Steps`] by [`write()`]. A refusal
-//! prints as a phrase; [`sentence()`] says it with the place of its step.
+//! prints as a phrase; [`sentence()`] says it with the place of its step. A register's log is added
+//! up by [`total()`], and card by card by [`total_by_card`].
 //!
 //! # Memory
 //!
@@ -75,7 +76,7 @@
 //! `GONDZSELU_LIB_DIR` names, or else what `rt staticlib firmware` wrote in the repository
 //! (`target/staticlib/libfirmware.a`, the same library under the name that it is built by). Its
 //! version and the sizes of its memories are checked whenever a store is started, a file
-//! answered or written, or a sentence asked for ([`check_library`]).
+//! answered or written, a sentence asked for, or a log added up ([`check_library`]).
 
 #![no_std]
 #![deny(missing_docs, unsafe_code)]
@@ -91,6 +92,7 @@ mod sentence;
 mod step;
 mod store;
 mod taken;
+mod total;
 mod write;
 
 pub use condition::Condition;
@@ -102,6 +104,7 @@ pub use sentence::{sentence, sentence_bytes, Sentence};
 pub use step::{Function, Step};
 pub use store::{Placement, Store};
 pub use taken::{Taken, HELD};
+pub use total::{total, total_by_card};
 pub use write::{write, write_bytes, Steps};
 
 /// The examples of the README are run with the tests.

@@ -5,8 +5,8 @@ use core::fmt;
 
 use crate::HELD;
 
-/// Why a file, a placement, an output, a step or a sentence was refused (RULES 8.2). A refusal
-/// changes nothing.
+/// Why a file, a placement, an output, a step, a sentence or a log was refused (RULES 8.2). A
+/// refusal changes nothing.
 ///
 /// ```
 /// use gondzselu::Refusal;
@@ -21,8 +21,8 @@ pub enum Refusal {
     FileTooShort,
     /// 2: the file has more bytes than its sizes ask for.
     FileTooLong,
-    /// 3: a size is out of range; also copies and primaries, or codes and arguments, of unequal
-    /// length, and a step for [`Steps`](crate::Steps) that are full.
+    /// 3: a size is out of range; also copies and primaries, codes and arguments, or the lists of
+    /// a log, of unequal length, and a step for [`Steps`](crate::Steps) that are full.
     SizeOutOfRange,
     /// 4: a register has no copy, a copy or a home is on an absent card, or a primary has no
     /// copy.
@@ -40,7 +40,7 @@ pub enum Refusal {
     AbsentTask,
     /// 13: the register is absent.
     AbsentRegister,
-    /// 14: the card is absent.
+    /// 14: the card is absent; of a log, a card number is above 7.
     AbsentCard,
     /// 15: the function is not 1 to 5.
     UnknownFunction,

@@ -1,7 +1,9 @@
 //! Run files from a seed. Each file has random numbers of its own, so any one of them can be
 //! made again alone.
 
+mod adding;
 mod guide;
+pub mod logs;
 mod scenes;
 mod spoil;
 pub mod tables;
@@ -10,6 +12,7 @@ use crate::model::files::{RawStep, Run};
 use crate::model::placement::{Place, Placement};
 use crate::model::FUNCTIONS;
 use crate::random::Random;
+pub use adding::adding;
 
 #[derive(Clone, Copy, Debug, PartialEq, Eq)]
 pub enum Kind {

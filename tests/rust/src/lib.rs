@@ -4,10 +4,10 @@
 //! `model` holds the rules, `named` the runs K1 to K13, `steps` the ten steps as bytes, `generate`
 //! makes files from a seed, `statistics` tells what files contain and what they must reach,
 //! `memory` has a state in the words of a store, `by_hand` makes states that no run needs to reach,
-//! `sentence` puts refusals into words, `stored`, `view`, `say` and `compose` have the files that
-//! the tree keeps (`folder`), `selfcheck`, `consistency` and `applied` try the model itself,
-//! `library` compares the store with it, `writing` a writer of run files, and `roundtrip` the
-//! programs `view` and `compose`.
+//! `sentence` puts refusals into words, `logs` has what totals are made of, `stored`, `view`, `say`,
+//! `compose` and `sums` have the files that the tree keeps (`folder`), `selfcheck`, `consistency` and
+//! `applied` try the model itself, `library` compares the store with it, `writing` a writer of run
+//! files, `totalling` readers of logs, and `roundtrip` the programs `view` and `compose`.
 
 pub mod applied;
 pub mod by_hand;
@@ -17,6 +17,7 @@ pub mod folder;
 pub mod generate;
 #[cfg(feature = "library")]
 pub mod library;
+pub mod logs;
 pub mod memory;
 pub mod model;
 pub mod named;
@@ -28,5 +29,7 @@ pub mod sentence;
 pub mod statistics;
 pub mod steps;
 pub mod stored;
+pub mod sums;
+pub mod totalling;
 pub mod view;
 pub mod writing;

@@ -1,11 +1,12 @@
 //! The proved store, linked as a static library (feature `library`), against the model: whole
-//! files, the same steps one by one, what a panel reads, states made by hand, sentences, and run
-//! files from tables.
+//! files, the same steps one by one, what a panel reads, states made by hand, sentences, run files
+//! from tables, and totals of logs.
 
 mod c;
 mod calls;
 pub mod sentences;
 pub mod states;
+pub mod totals;
 mod wild;
 pub mod words;
 pub mod write;
@@ -21,8 +22,8 @@ use crate::named;
 use crate::random::Random;
 use calls::Calls;
 
-/// Version 0.8.0.
-const VERSION: u32 = 8_000;
+/// Version 0.9.0.
+const VERSION: u32 = 9_000;
 
 /// What lies in a lent output before.
 const FILL: u8 = 0xA5;

@@ -18,9 +18,12 @@ use gondzselu_model::selfcheck::{check, Checked};
 use gondzselu_model::sentence::{sentence, PHRASES};
 use gondzselu_model::statistics::{self, Statistics};
 use gondzselu_model::stored;
+use gondzselu_model::sums;
+#[cfg(feature = "library")]
+use gondzselu_model::totalling;
 use gondzselu_model::view;
 #[cfg(feature = "library")]
-use gondzselu_model::writing::Compared;
+use gondzselu_model::writing;
 
 const USAGE: &str = "compare names                    K1 to K13: name, file and answer in hex
 compare sentences                a sentence for each refusal of a step; with the feature
@@ -28,13 +31,16 @@ compare sentences                a sentence for each refusal of a step; with the
 compare view FILE                a run file and its answers in words
 compare say FILE                 the refused steps of an answer file in sentences
 compare compose FILE             a run in words as a run file, on standard output
+compare sum FILE                 the totals by card of a run file
 compare generate SEED COUNT DIR  writes run files and the model's answers
 compare stored DIR               writes the runs that crates/runs keeps, with the model's answers
 compare views DIR                writes the runs that crates/view keeps, with what view prints
 compare says DIR                 writes the inputs that crates/say keeps, with what say prints
 compare composes DIR             writes the texts that crates/compose keeps, with what compose writes
+compare sums DIR                 writes the runs that crates/sums keeps, with what sums prints
 compare statistics SEED COUNT    what generated files contain
 compare self SEED COUNT          checks the model against itself
+compare printed BIN SEED COUNT   runs the program sums of a folder on files
 compare roundtrip BIN SEED COUNT runs the programs view and compose of a folder on files and on what
                                  view prints of them, and compose on spoiled texts
 compare spoiled SEED ITEM COUNT  the spoiled text of one of them
@@ -43,12 +49,14 @@ compare steps SEED COUNT         the same, step by step, with what the memories 
 compare states SEED COUNT        compares it on states made by hand, and on K1 to K13
 compare sentences-library        compares its sentences
 compare write SEED COUNT         compares the run files that it writes from tables
+compare totals SEED COUNT        compares its totals of logs, also of those of runs
 
 From COUNT 1,000 on, each also fails where the files miss something that they must reach: a
 refusal, a code or function taken, a message held, a sum about the top, a kind of message
 delivered, a value, a size at its least or most, a limit; where the texts miss a message or an
-answer; where the tables miss a refusal, a reason for it, a size or a length of the output; and
-from 10,000 on, where the states are all of one sort or miss a result.";
+answer; where the tables miss a refusal, a reason for it, a size or a length of the output; where
+the logs miss a length, a card, an operand or a refusal, or those of runs are too few; and from
+10,000 on, where the states are all of one sort or miss a result.";
 
 fn main() -> ExitCode {
     let words: Vec<String> = std::env::args().skip(1).collect();
@@ -59,11 +67,14 @@ fn main() -> ExitCode {
         ["view", file] => read(file).map(|file| print!("{}", view::view(&file))),
         ["say", file] => say_file(file),
         ["compose", file] => compose_file(file),
+        ["sum", file] => read(file).map(|file| print!("{}", sums::sums(&file))),
         ["generate", seed, count, directory] => write(seed, count, Path::new(directory)),
         ["stored", directory] => folder::write(Path::new(directory), &stored::files()),
         ["views", directory] => folder::write(Path::new(directory), &view::cases::files()),
         ["says", directory] => folder::write(Path::new(directory), &say::cases::files()),
         ["composes", directory] => folder::write(Path::new(directory), &compose::cases::files()),
+        ["sums", directory] => folder::write(Path::new(directory), &sums::cases::files()),
+        ["printed", programs, seed, count] => printed(Path::new(programs), seed, count),
         ["roundtrip", programs, seed, count] => roundtrips(Path::new(programs), seed, count),
         ["spoiled", seed, item, count] => spoiled(seed, item, count),
         ["statistics", seed, count] => each(seed, count, |_, _| Ok(())),
@@ -79,7 +90,15 @@ fn main() -> ExitCode {
         #[cfg(feature = "library")]
         ["sentences-library"] => sentences_library(),
         #[cfg(feature = "library")]
-        ["write", seed, count] => write_library(seed, count),
+        ["write", seed, count] => {
+            let missing = writing::Compared::missing;
+            items(seed, count, library::write::compare, missing)
+        }
+        #[cfg(feature = "library")]
+        ["totals", seed, count] => {
+            let missing = totalling::Compared::missing;
+            items(seed, count, library::totals::compare, missing)
+        }
         _ => Err(format!("what?\n{USAGE}")),
     };
     match result {
@@ -155,6 +174,22 @@ fn print_bytes(bytes: &[u8]) -> Result<(), String> {
 fn spoiled(seed: &str, item: &str, count: &str) -> Result<(), String> {
     let text = roundtrip::text(number(seed)?, number(item)?, number(count)?);
     print_bytes(&text)
+}
+
+/// Files by `sums` of a folder.
+fn printed(programs: &Path, seed: &str, count: &str) -> Result<(), String> {
+    let (seed, count) = (number(seed)?, number(count)?);
+    let run = |name: &str, input: &[u8]| roundtrip::run(programs, name, input);
+    let mut compared = sums::printed::Compared::default();
+    for item in 0..count {
+        sums::printed::compare(&mut Random::new(seed, item), &run, &mut compared)
+            .map_err(|words| format!("seed {seed} item {item}: {words}"))?;
+    }
+    println!("{compared}");
+    match count < statistics::FILES {
+        true => Ok(()),
+        false => statistics::none_missing(compared.missing()),
+    }
 }
 
 /// Files and texts by `view` and `compose` of a folder.
@@ -259,18 +294,23 @@ fn sentences_library() -> Result<(), String> {
     Ok(())
 }
 
-/// Generated tables, on outputs of many lengths.
+/// Compares on each item of a seed, and prints what was compared.
 #[cfg(feature = "library")]
-fn write_library(seed: &str, count: &str) -> Result<(), String> {
+fn items<Compared: Default + std::fmt::Display>(
+    seed: &str,
+    count: &str,
+    compare: fn(&mut Random, &mut Compared) -> Result<(), String>,
+    missing: fn(&Compared) -> Vec<String>,
+) -> Result<(), String> {
     let (seed, count) = (number(seed)?, number(count)?);
     let mut compared = Compared::default();
     for item in 0..count {
-        library::write::compare(&mut Random::new(seed, item), &mut compared)
+        compare(&mut Random::new(seed, item), &mut compared)
             .map_err(|words| format!("seed {seed} item {item}: {words}"))?;
     }
     println!("{compared}");
     match count < statistics::FILES {
         true => Ok(()),
-        false => statistics::none_missing(compared.missing()),
+        false => statistics::none_missing(missing(&compared)),
     }
 }

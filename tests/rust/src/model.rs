@@ -17,6 +17,7 @@ pub mod step;
 pub mod tally;
 #[cfg(test)]
 mod tests;
+pub mod totals;
 pub mod write;
 
 use channel::{Arrived, Body, Channel, Message};

@@ -160,7 +160,7 @@ fn said(bytes: &[u8]) -> String {
 }
 
 /// Whether a program wrote this and had nothing to say.
-fn wrote(what: &str, ended: Ended, wanted: &[u8]) -> Result<(), String> {
+pub fn wrote(what: &str, ended: Ended, wanted: &[u8]) -> Result<(), String> {
     if !ended.well || !ended.errors.is_empty() {
         return Err(format!(
             "{what}: it ends badly or says: {}",

@@ -88,15 +88,23 @@ pub fn view(file: &[u8]) -> String {
     text + &format!("\ntaken {taken}, refused {refused}\n")
 }
 
-/// The sizes, a line for each task and a line for each register.
-fn placement(placement: &Placement, steps: usize) -> String {
+/// The sizes of a run, and an empty line.
+pub fn sizes(placement: &Placement, steps: usize) -> String {
     let Placement {
         cards,
         home,
         registers,
     } = placement;
     let (r, t) = (registers.len(), home.len());
-    let mut text = format!("cards {cards}, registers {r}, tasks {t}, steps {steps}\n\n");
+    format!("cards {cards}, registers {r}, tasks {t}, steps {steps}\n\n")
+}
+
+/// The sizes, a line for each task and a line for each register.
+fn placement(placement: &Placement, steps: usize) -> String {
+    let Placement {
+        home, registers, ..
+    } = placement;
+    let mut text = sizes(placement, steps);
     for (task, home) in home.iter().enumerate() {
         text += &format!("task {task:>2}  home card {home}\n");
     }

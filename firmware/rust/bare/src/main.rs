@@ -10,7 +10,8 @@ use core::panic::PanicInfo;
 use core::ptr::addr_of_mut;
 
 use gondzselu::{
-    sentence, write, Condition, Function, Placement, Refusal, Step, Steps, Store, Taken, Tally,
+    sentence, total, total_by_card, write, Condition, Function, Placement, Refusal, Step, Steps,
+    Store, Taken, Tally,
 };
 
 #[link(name = "c")]
@@ -109,6 +110,11 @@ fn play(store: &mut Store) -> i32 {
     }
     if file != *include_bytes!("../../../../examples/k9.run") {
         return 8;
+    }
+    // RULES 16.9.
+    let (cards, operands) = ([2, 0, 2], [4_294_967_295, 3, 5]);
+    if [total, total_by_card].map(|call| call(&cards, &operands)) != [Ok(7); 2] {
+        return 9;
     }
     0
 }

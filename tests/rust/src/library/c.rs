@@ -48,6 +48,20 @@ extern "C" {
         output_length: usize,
         length: *mut u32,
     ) -> u8;
+    fn gondzselu_total(
+        cards: *const u8,
+        cards_length: usize,
+        operands: *const u32,
+        operands_length: usize,
+        total: *mut u32,
+    ) -> u8;
+    fn gondzselu_total_by_card(
+        cards: *const u8,
+        cards_length: usize,
+        operands: *const u32,
+        operands_length: usize,
+        total: *mut u32,
+    ) -> u8;
 }
 
 /// What lies where a value is written: it is no answer.
@@ -163,4 +177,16 @@ pub fn write(tables: &Tables, output: &mut [u8]) -> (u8, u32) {
         )
     };
     (refusal, length)
+}
+
+/// The refusal; the total is written over what is there.
+pub fn total(cards: &[u8], operands: &[u32], total: &mut u32) -> u8 {
+    let (at, length) = (operands.as_ptr(), operands.len());
+    unsafe { gondzselu_total(cards.as_ptr(), cards.len(), at, length, total) }
+}
+
+/// The same, card by card.
+pub fn total_by_card(cards: &[u8], operands: &[u32], total: &mut u32) -> u8 {
+    let (at, length) = (operands.as_ptr(), operands.len());
+    unsafe { gondzselu_total_by_card(cards.as_ptr(), cards.len(), at, length, total) }
 }

@@ -20,8 +20,12 @@ pub struct Case {
 /// One card, register and task, and no steps.
 const SMALLEST: [u8; 8] = [1, 1, 1, 0, 0, 0, 1, 0];
 
-pub fn cases() -> Vec<Case> {
-    let of = |name, file| Case { name, file };
+fn of(name: &'static str, file: Vec<u8>) -> Case {
+    Case { name, file }
+}
+
+/// Those that are refused, and the smallest that is not.
+pub fn without_steps() -> Vec<Case> {
     vec![
         of("empty", Vec::new()),
         of("too_short", SMALLEST[..7].to_vec()),
@@ -29,22 +33,35 @@ pub fn cases() -> Vec<Case> {
         of("size_out_of_range", vec![9, 1, 1, 0, 0, 0, 1, 0]),
         of("no_copy", vec![1, 1, 1, 0, 0, 0, 0, 0]),
         of("without_steps", SMALLEST.to_vec()),
+    ]
+}
+
+pub fn cases() -> Vec<Case> {
+    let mut cases = without_steps();
+    cases.extend([
         of("every_phrase", every_phrase()),
         of("raw_bytes", raw_bytes()),
         of("wide_numbers", wide_numbers()),
         of("full", generate::longest(&mut Random::new(518, 0))),
-    ]
+    ]);
+    cases
 }
 
-/// The files of the folder: each run file and what is printed for it.
+/// The files of the folder.
 pub fn files() -> Vec<File> {
+    printed(cases(), view)
+}
+
+/// Each run file, and what a program prints for it.
+pub fn printed(cases: Vec<Case>, program: fn(&[u8]) -> String) -> Vec<File> {
     let pair = |case: Case| {
+        let text = program(&case.file);
         [
-            (format!("{}.txt", case.name), view(&case.file).into_bytes()),
+            (format!("{}.txt", case.name), text.into_bytes()),
             (format!("{}.run", case.name), case.file),
         ]
     };
-    cases().into_iter().flat_map(pair).collect()
+    cases.into_iter().flat_map(pair).collect()
 }
 
 /// The six ways of RULES 5.14, with each step, function and phrase; 34 and 35 last.

@@ -1,0 +1,5 @@
+pub mod Log
+pub mod LogMeaning
+pub mod LogExample
+pub mod Entries
+pub mod FileLog

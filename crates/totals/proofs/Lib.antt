@@ -1,0 +1,4 @@
+pub mod Adding
+pub mod Grouping
+pub mod CardSums
+pub mod TotalsMeaning
