@@ -59,7 +59,7 @@ function check(k, end, form) {
     if (word[k] == "use" && (file !~ /\.rt$/ || word[k - 1] == "ghost")) { k = import(k); continue }
     if (file in limits) continue
     if (word[k] ~ /(^|\.)(Rattle·|lib\.|mathlib\.)/) say("a name written out, " word[k])
-    if (who != "store" && who != "logs") continue
+    if (who != "store" && who != "logs" && who != "loads") continue
     if (word[k] == "unfolding" || word[k] == "unfold") {
       end = word[k] == "unfold" ? "in" : "="
       for (k++; k <= count && word[k] != end; k++)

@@ -15,11 +15,12 @@
 //! Processor time, medians of rounds taken in turn. Every round begins from new states; outputs are
 //! not cleared between rounds. In each round all sides must answer the same. Before that, the tuned
 //! side is compared with the model on files of every kind (`agree`); its states made by hand are
-//! tried by `cargo test`. Run files written from their tables are timed as well (`write`), and totals of
-//! logs, by the proved and the tuned side (`total`).
+//! tried by `cargo test`. Run files written from their tables are timed as well (`write`); and by the
+//! proved and the tuned side loads (`load`) and totals of logs (`total`).
 
 mod agree;
 mod clock;
+mod load;
 mod total;
 mod write;
 
@@ -124,6 +125,8 @@ fn main() {
     println!("and on files to be written: {compared} tables, {calls} calls");
     let compared = total::tuned_with_proved();
     println!("tuned and proved agree on totals: {compared} logs");
+    let compared = load::tuned_with_proved();
+    println!("and on loads: {compared} calls");
     println!("nanoseconds a step: proved, plain, tuned");
     println!("file  taken |      whole run       |    checked steps     |   unchecked steps");
     let mut ratios = [const { [const { Vec::new() }; 2] }; 3];
@@ -165,6 +168,7 @@ fn main() {
     }
     let [proved, plain, tuned] = writes.map(median);
     println!("a file of {STEPS} steps written: proved {proved:.0} ns, plain {plain:.0}, tuned {tuned:.0}");
+    load::print();
     total::print();
     let (proved, tuned) = (size_of::<gondzselu::Store>(), size_of::<tuned::Store>());
     println!("a store: proved {proved} bytes, tuned {tuned} bytes");

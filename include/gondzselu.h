@@ -1,8 +1,8 @@
 /* The proved register store for firmware, in C11 and C++ (x86-64 Linux). `firmware/install PREFIX`
  * installs it; then `cc main.c $(pkg-config --cflags --libs gondzselu)`. The rules are in
  * docs/RULES.md and cited by number ("RULES 8.5"): what the steps do, when they are refused, what
- * is promised of a run. firmware/c/k9.c is a first program; tickets.c there hands out numbers, and
- * totals.c adds up a log.
+ * is promised of a run. firmware/c/k9.c is a first program; tickets.c there hands out numbers,
+ * totals.c adds up a log, and load.c draws a load.
  *
  * Memory    A store is two memories that the caller lends, changed in place, aligned as uint32_t:
  *           7,508 bytes. Each has its type, so that swapped ones do not compile (older C compilers
@@ -33,7 +33,7 @@ extern "C" {
 /* ---- version */
 
 #define GONDZSELU_VERSION_MAJOR 0
-#define GONDZSELU_VERSION_MINOR 9
+#define GONDZSELU_VERSION_MINOR 10
 #define GONDZSELU_VERSION_PATCH 0
 #define GONDZSELU_VERSION \
     (GONDZSELU_VERSION_MAJOR * 1000000 + GONDZSELU_VERSION_MINOR * 1000 + GONDZSELU_VERSION_PATCH)
@@ -297,6 +297,19 @@ uint8_t gondzselu_write(uint32_t cards, const uint8_t *homes, size_t homes_lengt
                         const uint8_t *codes, size_t codes_length,
                         const uint8_t *arguments, size_t arguments_length,
                         uint8_t *output, size_t output_length, uint32_t *length);
+
+/* Writes the load (RULES 17) of a seed: the run file of a placement, as gondzselu_start takes it,
+ * and of so many steps, drawn one after the other from the seed. Whoever draws it gets the same
+ * bytes. No step of it has a wrong code or argument, so none is refused with 10 to 15; other
+ * refusals come often. GONDZSELU_FILE_MAX bytes of output are always enough, and gondzselu_answer
+ * accepts every load. Gives 0; or 3 for a size out of range, the number of steps too, or copies and
+ * primaries of unequal length, then 4 for the placement, then 5 for an output shorter than the
+ * file, with the output as it was. Bytes past the file stay as they were. Writes the length in
+ * every case: of the file, or 0. */
+uint8_t gondzselu_load(uint32_t seed, uint32_t cards, const uint8_t *homes, size_t homes_length,
+                       const uint8_t *copies, size_t copies_length,
+                       const uint8_t *primaries, size_t primaries_length, uint32_t steps,
+                       uint8_t *output, size_t output_length, uint32_t *length);
 
 /* ---- a refusal in words */
 

@@ -23,6 +23,7 @@
 
 mod channel;
 mod deliver;
+mod load;
 mod run;
 mod sized;
 mod tasks;
@@ -32,6 +33,7 @@ mod total;
 mod word;
 mod write;
 
+pub use load::{load, Wanted};
 pub use run::answer;
 pub use total::{total, total_by_card};
 use word::{Message, READ, UPDATE};

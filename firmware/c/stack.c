@@ -41,6 +41,9 @@ static void write_file(void) {
     bad += gondzselu_write(8, f + 5, 16, f + 21, 32, f + 53, 32, codes, STEPS, codes + STEPS,
                            8 * STEPS, out, sizeof out, &v);
 }
+static void load(void) {
+    bad += gondzselu_load(2026, 8, f + 5, 16, f + 21, 32, f + 53, 32, STEPS, out, sizeof out, &v);
+}
 static void totals(void) {
     bad += gondzselu_total(f + 53, 32, c.words, 32, &v);
     bad += gondzselu_total_by_card(f + 53, 32, c.words, 32, &v);
@@ -65,10 +68,10 @@ static int above(const char *name, void (*call)(void), size_t limit) {
 int main(void) {
     fill();
     int over = above("answer", answer, GONDZSELU_STACK_ANSWER);
-    void (*const calls[])(void) = {start,    start_file, step,   advance,
-                                   sentence, write_file, totals, panel};
-    static const char *const names[] = {"start",    "start_file", "step",   "advance",
-                                        "sentence", "write",      "totals", "panel"};
-    for (int k = 0; k < 8; k++) over += above(names[k], calls[k], GONDZSELU_STACK_CALL);
+    void (*const calls[])(void) = {start,      start_file, step,   advance, sentence,
+                                   write_file, load,       totals, panel};
+    static const char *const names[] = {"start", "start_file", "step",   "advance", "sentence",
+                                        "write", "load",       "totals", "panel"};
+    for (int k = 0; k < 9; k++) over += above(names[k], calls[k], GONDZSELU_STACK_CALL);
     return over > 0 || bad > 0 || tally.taken < 500; /* a refused file would measure nothing */
 }

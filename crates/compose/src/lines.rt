@@ -4,10 +4,10 @@
 use super::steps;
 use super::words::Found;
 use super::words::at_end;
-use super::words::first;
 use super::words::number;
 use super::words::one_of;
 use super::words::part;
+use console::prefix;
 use names::wide;
 
 // How the reading stands: it goes on, or why it has ended.
@@ -264,7 +264,7 @@ fn read(text: Text, line: &[u8], table: &mut [u8; 36944]) -> Text {
 
 // The bytes that there are of a line are all.
 pub(crate) fn with_line(text: Text, line: &[u8; 255], table: &mut [u8; 36944]) -> Text {
-    let mut with = read(text, first(line, text.length), table);
+    let mut with = read(text, prefix(line, text.length), table);
     if with.state != READING {
         return with;
     }

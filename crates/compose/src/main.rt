@@ -4,12 +4,12 @@ mod lines;
 mod steps;
 mod words;
 
+use console::prefix;
 use console::tell_one;
 use lines::Text;
 use lines::ended;
 use lines::with_line;
 use names::wide;
-use words::first;
 use words::part;
 
 fn with_byte(text: Text, byte: u8, line: &mut [u8; 255], table: &mut [u8; 36944]) -> Text {
@@ -128,7 +128,7 @@ fn composed(text: Text, table: &[u8; 36944], out: &mut [u8; 36949]) -> runfile::
 
 // What is gathered in the page is the message.
 fn failed(page: &[u8; 65536], at: usize) {
-    console::failed(b"compose", first(page, at));
+    console::failed(b"compose", prefix(page, at));
 }
 
 // Message k of a list, for a line.
@@ -157,7 +157,7 @@ fn refused_text(number: u32) {
 }
 
 fn written(out: &[u8; 36949], length: u32) -> bool {
-    io::write_all(1, first(out, wide(length)))
+    io::write_all(1, prefix(out, wide(length)))
 }
 
 fn write(text: Text, table: &[u8; 36944]) {

@@ -3,6 +3,8 @@
 // A place is where the line is read on, 0 to its length; 256, which is past the end of every line, says that the line is not understood, and
 // nothing more is read of it. Each function takes the place and answers the next one.
 ghost use Prim.Native.Nat.{_≤_};
+use console::prefix;
+use console::with_digit;
 
 pub(crate) const FAILED: usize = 256;
 
@@ -21,20 +23,12 @@ fn nothing() -> Found
     }
 }
 
-// The first n bytes, or all of them.
-pub(crate) fn first(bytes: &[u8], n: usize) -> &[u8] {
-    if bytes.len() < n {
-        return bytes;
-    }
-    &bytes[..n]
-}
-
 // So many of them from a place on.
 pub(crate) fn part(bytes: &[u8], start: usize, count: usize) -> &[u8] {
     if bytes.len() < start {
         return bytes;
     }
-    first(&bytes[start..], count)
+    prefix(&bytes[start..], count)
 }
 
 fn is_blank(byte: u8) -> bool {
@@ -67,20 +61,6 @@ fn word_end(line: &[u8], at: usize) -> usize {
         return at;
     }
     FAILED
-}
-
-// A number with one more digit; larger than any number where it was so before, or the byte is no digit.
-fn with_digit(number: u64, byte: u8) -> u64 {
-    if 4294967295 < number {
-        return 4294967296;
-    }
-    if byte < b'0' {
-        return 4294967296;
-    }
-    if b'9' < byte {
-        return 4294967296;
-    }
-    10 * number + (byte - b'0') as u64
 }
 
 // A number whose digits stand between two places.

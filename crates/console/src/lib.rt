@@ -3,6 +3,7 @@
 // A place is where the next byte goes in the page, 0 to 65,536; 65,537 says that a write has failed, and nothing more is written. Each function
 // takes the place and answers the next one; `finish` writes what is left.
 mod ending;
+mod pieces;
 mod refusals;
 mod words;
 
@@ -10,6 +11,8 @@ pub use ending::failed;
 pub use ending::read_whole;
 pub use ending::unread;
 pub use ending::unwritten;
+pub use pieces::prefix;
+pub use pieces::with_digit;
 pub use refusals::refused_file;
 pub use words::column;
 pub use words::is_empty;

@@ -10,7 +10,9 @@ ghost use Rattle.tables.specs.Panel.{valueShown, doingShown};
 ghost use Rattle.tables.specs.Doings.{doingKind, doingValue};
 ghost use Rattle.runfile.specs.RunFile.{fileRefusal};
 ghost use Rattle.runfile.specs.Run.{fileRegisters, fileChannel, answerRefusal, answerOutput};
+ghost use Rattle.runfile.specs.Head.{headOf};
 ghost use Rattle.runfile.specs.Compose.{tables, composeOutput, composedOf};
+ghost use Rattle.loads.specs.Load.{loadOutput};
 ghost use Rattle.firmware.specs.RunTally.{ranTally};
 ghost use Rattle.firmware.specs.StepTally.{countsOf};
 ghost use Rattle.tally.specs.Tally.{countedStep};
@@ -40,9 +42,9 @@ pub extern "C" fn gondzselu_channel_words() -> usize
 // The version of what is offered: major * 1,000,000 + minor * 1,000 + patch.
 #[no_mangle]
 pub extern "C" fn gondzselu_version() -> u32
-    ensures { λ r. ⌜ r ≡ 9000 ⌝ }
+    ensures { λ r. ⌜ r ≡ 10000 ⌝ }
 {
-    9000
+    10000
 }
 
 // ---- a whole run
@@ -87,6 +89,28 @@ pub extern "C" fn gondzselu_write(
     ensures number { λ r. ⌜ r ≡ composedOf (tables cards (now (homes .entry)) (now (copies .entry)) (now (primaries .entry)) (now (codes .entry)) (now (arguments .entry))) (now (out .entry)) .refusal ⌝ }
 {
     let said = runfile::compose(cards, homes, copies, primaries, codes, arguments, out);
+    *length = said.length;
+    said.refusal
+}
+
+// Writes the load of a seed, for a placement and a number of steps, into a lent output: 0, or the refusal of the placement or the number (3, 4) or
+// of the output (5) and the output as it was. The length is the file's, 0 where it is refused.
+#[no_mangle]
+pub extern "C" fn gondzselu_load(
+    seed: u32,
+    cards: u32,
+    homes: &[u8],
+    copies: &[u8],
+    primaries: &[u8],
+    steps: u32,
+    out: &mut [u8],
+    length: &mut u32,
+) -> u8
+    ensures output { λ _. ⌜ now (out .exit) ≡ loadOutput seed (placement cards (now (homes .entry)) (now (copies .entry)) (now (primaries .entry))) steps (now (out .entry)) ⌝ }
+    ensures length { λ _. ⌜ now (length .exit) ≡ headOf (placement cards (now (homes .entry)) (now (copies .entry)) (now (primaries .entry))) steps (now (out .entry)) .length ⌝ }
+    ensures number { λ r. ⌜ r ≡ headOf (placement cards (now (homes .entry)) (now (copies .entry)) (now (primaries .entry))) steps (now (out .entry)) .refusal ⌝ }
+{
+    let said = loads::load(seed, cards, homes, copies, primaries, steps, out);
     *length = said.length;
     said.refusal
 }

@@ -5,6 +5,7 @@ use mathlib.Core.List.{List}
 use Prim.Native.Nat.{ℕ}
 use Rattle.lists.specs.Listings.{listing}
 use Rattle.runfile.specs.RunFile.{fileRefusal, sizeBytes, placementBytes, fileBytes}
+use Rattle.runfile.specs.Head.{wholeLength}
 use Rattle.runfile.specs.Compose.{Tables, tablesIn, composed, composedLength, composeRefusal}
 use Rattle.runfile.specs.ComposeMeaning.{SizedTables, PlacedTables, ComposeMeaning, ComposeComputed}
 use Rattle.runfile.proofs.ComposeNumbers.{numbers, touches}
@@ -24,5 +25,5 @@ compose-meaning = record {
 }
 
 pub compose-computed : ComposeComputed
-unfolding composed composedLength fileBytes sizeBytes placementBytes listing
+unfolding composed composedLength wholeLength fileBytes sizeBytes placementBytes listing
 compose-computed = record { two-steps = refl; its-length = refl }

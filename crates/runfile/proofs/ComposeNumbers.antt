@@ -1,8 +1,8 @@
 -- Which tables and outputs are refused, and what a call touches.
-use Prim.Native.Nat.{ℕ, _+_, _-_, _*_, _≤_, _<_}
-use mathlib.Core.Path.{_≡_, refl, sym, ap, ap₂, _∙_}
+use Prim.Native.Nat.{ℕ, _+_, _-_, _*_, _≤_}
+use mathlib.Core.Path.{_≡_, refl, sym, ap, _∙_}
 use mathlib.Core.Logic.{_↔_, _≢_}
-use mathlib.Core.Bool.{Bool, true, false, cond, _&&_}
+use mathlib.Core.Bool.{Bool, true, false, cond}
 use mathlib.Core.List.{List, _++_}
 use native.Mathlib.Omega.{arith}
 use lib.Dec.{eqb, leb}
@@ -10,20 +10,16 @@ use lib.ListN.{length, getD, drop, length-append, length-drop, List·getD-append
 use lib.Seq.{sets, sets-eq, getD-append-add, getD-drop}
 use borrow.Author.Tests.{leb-true, leb-false, le-leb, lt-leb, eqb-true, eq-eqb, ne-eqb}
 use Rattle.lists.specs.Tests.{and-fst, and-snd, and-intro, clash, false-of}
-use Rattle.names.specs.Placement.{tasks, registers, sized, placed}
-use Rattle.names.proofs.PlacementLaws.{sized-is, placed-is}
-use Rattle.runfile.specs.Compose.{Tables, composed, composedLength, tablesSized, placedNumber, composeRefusal, composeOutput, composedOf}
+use Rattle.names.specs.Placement.{tasks, registers, placed}
+use Rattle.names.proofs.PlacementLaws.{placed-is}
+use Rattle.runfile.specs.Head.{placedNumber, wholeLength, headSized, headRefusal, headOutput, headOf}
+use Rattle.runfile.specs.Compose.{Tables, composed, composedLength, tablesSized, composeRefusal, composeOutput, composedOf}
 use Rattle.runfile.specs.ComposeMeaning.{SizedTables, ComposeNumbers, ComposeTouches}
-use Rattle.runfile.proofs.TableBytes.{placement-length, bytes-length}
+use Rattle.runfile.proofs.TableBytes.{placement-length, bytes-length, steps-behind}
+use Rattle.runfile.proofs.HeadLaws.{is-zero, in-range, head-length, fits, has-room}
+use Rattle.runfile.proofs.HeadLaws.{said-written as head-written}
 
--- ---- the number, by three tests
-
-is-zero : (a b c : Bool) → (cond a (placedNumber b c) 3 ≡ 0) ↔ ((a ≡ true) × (b ≡ true) × (c ≡ true))
-is-zero true true true = (λ e. (refl, refl, refl), λ h. refl)
-is-zero true true false = (λ e. absurd (omega arith), λ h. absurd (clash (h .2) refl))
-is-zero true false true = (λ e. absurd (omega arith), λ h. absurd (clash (h .1) refl))
-is-zero true false false = (λ e. absurd (omega arith), λ h. absurd (clash (h .1) refl))
-is-zero false b c = (λ e. absurd (omega arith), λ h. absurd (clash (h .0) refl))
+-- ---- the number, by three tests (0: HeadLaws)
 
 is-three : (a b c : Bool) → (cond a (placedNumber b c) 3 ≡ 3) ↔ (a ≡ false)
 is-three true true true = (λ e. absurd (omega arith), λ h. absurd (clash refl h))
@@ -55,30 +51,37 @@ module _ (t : Tables) where
   pub sized-tables : (tablesSized t ≡ true) ↔ SizedTables t
   unfolding tablesSized
   sized-tables =
-      let few : Bool = leb n 4096 in
+      let head : Bool = headSized (t .placement) n in
       let even : Bool = eqb (length (t .arguments)) (8 * n) in (
         λ e.
-            let a = and-fst (sized (t .placement) && few) even e in
-            let z = sized-is (t .placement) .0 (and-fst (sized (t .placement)) few a) in (
-              (z .0 .0, z .0 .1),
-              (z .0 .2, z .0 .3),
-              (z .0 .4, z .0 .5),
-              leb-true n 4096 (and-snd (sized (t .placement)) few a),
-              z .1,
-              eqb-true (length (t .arguments)) (8 * n) (and-snd (sized (t .placement) && few) even e),
+            let z = in-range (t .placement) n .0 (and-fst head even e) in (
+              (z .cards-least, z .cards-most),
+              (z .registers-least, z .registers-most),
+              (z .tasks-least, z .tasks-most),
+              z .steps-most,
+              z .even,
+              eqb-true (length (t .arguments)) (8 * n) (and-snd head even e),
             ),
         λ h.
-            let z = sized-is (t .placement) .1 ((h .0 .0, h .0 .1, h .1 .0, h .1 .1, h .2 .0, h .2 .1), h .4) in
-            and-intro (and-intro z (le-leb n 4096 (h .3))) (eq-eqb (length (t .arguments)) (8 * n) (h .5)),
+            let z = in-range (t .placement) n .1 (record {
+              cards-least = h .0 .0;
+              cards-most = h .0 .1;
+              registers-least = h .1 .0;
+              registers-most = h .1 .1;
+              tasks-least = h .2 .0;
+              tasks-most = h .2 .1;
+              steps-most = h .3;
+              even = h .4;
+            }) in
+            and-intro z (eq-eqb (length (t .arguments)) (8 * n) (h .5)),
       )
 
-  -- what the bytes of sized tables need
-  pub fits : (m : ℕ) → tablesSized t ≡ true → composedLength t ≤ m → (t .placement .cards < 256) × (registers (t .placement) < 256) × (tasks (t .placement) < 256) × (5 + tasks (t .placement) + registers (t .placement) + length (t .placement .primaries) + n + length (t .arguments) ≤ m)
-  unfolding composedLength
-  fits m e l = let h = sized-tables .0 e in (omega (arith, h .0 .1), omega (arith, h .1 .1), omega (arith, h .2 .1), omega (arith, h .4, h .5))
+  head-is-sized : tablesSized t ≡ true → headSized (t .placement) n ≡ true
+  unfolding tablesSized
+  head-is-sized e = and-fst (headSized (t .placement) n) (eqb (length (t .arguments)) (8 * n)) e
 
   pub length-is : SizedTables t → composedLength t ≡ length (composed t)
-  unfolding composedLength
+  unfolding composedLength wholeLength
   length-is h =
       let b = bytes-length t (h .5) in
       let l = placement-length (t .placement .homes) (t .placement .copies) (t .placement .primaries) in
@@ -91,27 +94,46 @@ module _ (t : Tables) where
 
     -- ---- as the code finds them
 
-    pub number-is : (b : Bool) (l m : ℕ) → tablesSized t ≡ true → b ≡ placed (t .placement) → l ≡ composedLength t → m ≡ placedNumber b (leb l (length out)) → composeRefusal t out ≡ m
-    unfolding composeRefusal
-    number-is b l m s p e q = rw s (sym (q ∙ ap₂ (λ a k. placedNumber a (leb k (length out))) p e))
+    -- of sized tables the head is refused as they are
+    head-refusal : tablesSized t ≡ true → headRefusal (t .placement) n out ≡ composeRefusal t out
+    unfolding headRefusal composeRefusal composedLength
+    head-refusal e = rw (e, head-is-sized e)
 
-    pub has-room : composeRefusal t out ≡ 0 → (tablesSized t ≡ true) × (composedLength t ≤ length out)
-    unfolding composeRefusal
-    has-room e = let z = is-zero (tablesSized t) (placed (t .placement)) room .0 e in (z .0, leb-true (composedLength t) (length out) (z .2))
+    pub said-unsized : tablesSized t ≡ false → (record { refusal = 3; length = 0 } ≡ composedOf t out) × (out ≡ composeOutput t out)
+    unfolding composeRefusal composedOf composeOutput
+    said-unsized e = (rw e, rw e)
 
-    pub said-refused : (m : ℕ) → composeRefusal t out ≡ m → m ≢ 0 → (record { refusal = m; length = 0 } ≡ composedOf t out) × (out ≡ composeOutput t out)
-    unfolding composedOf composeOutput
-    said-refused m e h = let z = ne-eqb m 0 h in (rw (e, z), rw (e, z))
+    pub said-refused : tablesSized t ≡ true → headOf (t .placement) n out .refusal ≢ 0 → (headOf (t .placement) n out ≡ composedOf t out) × (headOutput (t .placement) n out ≡ composeOutput t out)
+    unfolding headOf headOutput composedOf composeOutput
+    said-refused e h = let z = ne-eqb (composeRefusal t out) 0 (λ k. h (head-refusal e ∙ k)) in (rw (head-refusal e, z), rw (head-refusal e, z))
 
-    pub said-written : (l : ℕ) → composeRefusal t out ≡ 0 → l ≡ composedLength t → (record { refusal = 0; length = l } ≡ composedOf t out) × (sets out 0 (composed t) ≡ composeOutput t out)
-    unfolding composedOf composeOutput composedLength
-    said-written l e q =
-        let r = has-room e in
-        let h = sized-tables .0 (r .0) in
+    pub said-written : tablesSized t ≡ true → headOf (t .placement) n out .refusal ≡ 0 → (i : ℕ) → i ≡ 5 + tasks (t .placement) + registers (t .placement) + length (t .placement .primaries)
+        → (headOf (t .placement) n out ≡ composedOf t out) × (sets (headOutput (t .placement) n out) i (t .codes ++ t .arguments) ≡ composeOutput t out)
+    unfolding headOf composedOf composeOutput composedLength wholeLength
+    said-written e k i q =
+        let r = has-room (t .placement) n out k in
+        let h = sized-tables .0 e in
         let b = bytes-length t (h .5) in
         let p = placement-length (t .placement .homes) (t .placement .copies) (t .placement .primaries) in
         let z : 0 + length (composed t) ≡ length (composed t) = omega arith in
-        (rw (e, q), rw e (sets-eq (composed t) out 0 (omega (arith, r .1, h .4)) ∙ ap (λ k. composed t ++ drop k out) z))
+        let w = sym (head-refusal e) ∙ k in
+        let o = sym (head-written (t .placement) n out (wholeLength (t .placement) n) k refl .1) in (
+          rw (head-refusal e, w),
+          rw w
+              (ap (λ o. sets o i (t .codes ++ t .arguments)) o
+              ∙ steps-behind t (h .5) out i (q ∙ sym (head-length (t .placement) n))
+              ∙ sets-eq (composed t) out 0 (omega (arith, r .1, h .4))
+              ∙ ap (λ k. composed t ++ drop k out) z),
+        )
+
+    -- room for the steps behind the head
+    pub room-behind : tablesSized t ≡ true → headOf (t .placement) n out .refusal ≡ 0 → 5 + tasks (t .placement) + registers (t .placement) + length (t .placement .primaries) + n + length (t .arguments) ≤ length out
+    unfolding headOf
+    room-behind e k =
+        let r = has-room (t .placement) n out k in
+        let f = fits (t .placement) n (length out) (r .0) (r .1) .3 in
+        let h = sized-tables .0 e .5 in
+        omega arith
 
     -- ---- in plain terms
 

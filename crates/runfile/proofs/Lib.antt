@@ -1,9 +1,11 @@
 -- Run files and answer files
 pub mod Joined
+pub mod ParallelArrays
 pub mod AnswerLaws
 pub mod WriteLaws
 pub mod RunFileLaws
 pub mod TableBytes
+pub mod HeadLaws
 pub mod FileTables
 pub mod LongFile
 pub mod FileMeaning

@@ -1,7 +1,7 @@
 -- The bytes of a run file in terms of its tables.
 use Prim.Native.Nat.{ℕ, _+_, _*_}
 use mathlib.Core.Path.{_≡_, sym, ap, ap₂, _∙_}
-use mathlib.Core.List.{List, _++_, map}
+use mathlib.Core.List.{List, _++_, map, append-assoc}
 use native.Mathlib.Omega.{arith}
 use lib.ListN.{length, getD, length-append}
 use lib.Seq.{sets}
@@ -9,6 +9,7 @@ use Rattle.lists.specs.Parts.{sets-append}
 use Rattle.lists.specs.Listings.{listing, listing-all, listing-length, map-listing}
 use Rattle.names.specs.Placement.{tasks, registers}
 use Rattle.runfile.specs.RunFile.{joined, sizeBytes, placementBytes, fileBytes}
+use Rattle.runfile.specs.Head.{headBytes}
 use Rattle.runfile.specs.Compose.{Tables, stepOf, runFileOf, composed}
 use Rattle.runfile.proofs.Joined.{joined-pieces}
 
@@ -61,13 +62,11 @@ module _ (t : Tables) where
         let c = length-append (sizesOf ++ placementOf ++ t .codes) (t .arguments) in
         ap length composed-is ∙ omega arith
 
-    -- sizes, placement, codes and arguments stored where the one before ends
-    pub four-in-turn : (out : List ℕ) (i j : ℕ) → i ≡ 5 + length placementOf → j ≡ i + n → sets (sets (sets (sets out 0 sizesOf) 5 placementOf) i (t .codes)) j (t .arguments) ≡ sets out 0 (composed t)
-    four-in-turn out i j e f =
-        let s = size-length (t .placement .cards) (registers (t .placement)) (tasks (t .placement)) n in
-        let a = length-append sizesOf placementOf in
-        let five : 5 ≡ 0 + length sizesOf = omega arith in
-        let codes : i ≡ 0 + length (sizesOf ++ placementOf) = omega arith in
-        ap (λ o. sets (sets o i (t .codes)) j (t .arguments)) (ap (λ k. sets (sets out 0 sizesOf) k placementOf) five ∙ sym (sets-append out 0 sizesOf placementOf))
-        ∙ three-in-turn out (sizesOf ++ placementOf) (t .codes) (t .arguments) 0 i j codes f
-        ∙ ap (sets out 0) (sym composed-is)
+    -- the steps stored behind the head
+    pub steps-behind : (out : List ℕ) (i : ℕ) → i ≡ length (headBytes (t .placement) n) → sets (sets out 0 (headBytes (t .placement) n)) i (t .codes ++ t .arguments) ≡ sets out 0 (composed t)
+    unfolding headBytes
+    steps-behind out i e =
+        let at : i ≡ 0 + length (headBytes (t .placement) n) = omega arith in
+        ap (λ k. sets (sets out 0 (headBytes (t .placement) n)) k (t .codes ++ t .arguments)) at
+        ∙ sym (sets-append out 0 (headBytes (t .placement) n) (t .codes ++ t .arguments))
+        ∙ ap (sets out 0) (sym (append-assoc (sizesOf ++ placementOf) (t .codes) (t .arguments)) ∙ sym composed-is)

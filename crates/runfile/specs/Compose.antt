@@ -6,10 +6,11 @@ use lib.Dec.{eqb, leb}
 use lib.ListN.{length, getD, drop}
 use Rattle.lists.specs.Parts.{part}
 use Rattle.lists.specs.Listings.{listing}
-use Rattle.names.specs.Placement.{Placement, placement, tasks, registers, sized, placed}
+use Rattle.names.specs.Placement.{Placement, placement, placed}
 use Rattle.names.specs.Step.{RawStep}
 use Rattle.runfile.specs.declared.Composed.{Composed}
 use Rattle.runfile.specs.RunFile.{stepsIn, codesAt, argumentsAt, placementIn, RunFile, fileBytes}
+use Rattle.runfile.specs.Head.{placedNumber, wholeLength, headSized}
 
 -- what a set-up screen has: a placement, and two parallel tables over steps, codes and arguments, eight bytes a step
 pub record Tables : Type 0 where
@@ -28,10 +29,6 @@ tablesIn s = record {
   arguments = part s (argumentsAt s) (8 * stepsIn s);
 }
 
--- of tables with sizes in range: 4 as for the reader, then 5 for an output shorter than the file
-abbrev pub placedNumber : Bool → Bool → ℕ
-placedNumber placed room = cond placed (cond room 0 5) 4
-
 module _ (t : Tables) where
   -- step k; whatever its bytes are, the reader judges them
   abbrev pub stepOf : ℕ → RawStep
@@ -45,11 +42,11 @@ module _ (t : Tables) where
   composed = fileBytes runFileOf
 
   unfoldable pub composedLength : ℕ
-  composedLength = 5 + tasks (t .placement) + 2 * registers (t .placement) + 9 * length (t .codes)
+  composedLength = wholeLength (t .placement) (length (t .codes))
 
   -- 3: a size is out of range (RULES 1.3), or parallel tables have not one length
   unfoldable pub tablesSized : Bool
-  tablesSized = sized (t .placement) && leb (length (t .codes)) 4096 && eqb (length (t .arguments)) (8 * length (t .codes))
+  tablesSized = headSized (t .placement) (length (t .codes)) && eqb (length (t .arguments)) (8 * length (t .codes))
 
   -- 0, or the refusal
   unfoldable pub composeRefusal : List ℕ → ℕ

@@ -1,5 +1,6 @@
 pub mod RunFile
 pub mod AnswerFile
+pub mod Head
 pub mod Compose
 -- What they mean, stated apart from the definitions
 pub mod FileMeaning

@@ -12,10 +12,12 @@ use names::wide;
 
 pub mod answer_file;
 mod composer;
+mod file_head;
 mod run;
 mod table;
 
 pub use composer::compose;
+pub use file_head::head;
 pub use run::answer;
 pub use run::reply;
 pub use run::start;

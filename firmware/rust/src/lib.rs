@@ -45,9 +45,9 @@
 //! A step that is taken gives [`Taken`]: at a report the value read or the value that the update
 //! found, and of step 8 whether its message is held. So a counter hands out numbers: tasks that add
 //! 1 to a register are told different ones (RULES 5.15, `examples/tickets.rs`). A whole run file is
-//! answered by [`answer`], and written from a placement and [`Steps`] by [`write()`]. A refusal
-//! prints as a phrase; [`sentence()`] says it with the place of its step. A register's log is added
-//! up by [`total()`], and card by card by [`total_by_card`].
+//! answered by [`answer`], and written from a placement and [`Steps`] by [`write()`]; [`load()`]
+//! draws one from a seed. A refusal prints as a phrase; [`sentence()`] says it with the place of its
+//! step. A register's log is added up by [`total()`], and card by card by [`total_by_card`].
 //!
 //! # Memory
 //!
@@ -76,7 +76,7 @@
 //! `GONDZSELU_LIB_DIR` names, or else what `rt staticlib firmware` wrote in the repository
 //! (`target/staticlib/libfirmware.a`, the same library under the name that it is built by). Its
 //! version and the sizes of its memories are checked whenever a store is started, a file
-//! answered or written, a sentence asked for, or a log added up ([`check_library`]).
+//! answered, written or drawn, a sentence asked for, or a log added up ([`check_library`]).
 
 #![no_std]
 #![deny(missing_docs, unsafe_code)]
@@ -85,6 +85,7 @@
 mod condition;
 mod library;
 mod limits;
+mod load;
 mod raw;
 mod refusal;
 mod run;
@@ -98,6 +99,7 @@ mod write;
 pub use condition::Condition;
 pub use library::{check_library, version, OtherLibrary, VERSION};
 pub use limits::*;
+pub use load::load;
 pub use refusal::Refusal;
 pub use run::{answer, answer_counted, Tally};
 pub use sentence::{sentence, sentence_bytes, Sentence};

@@ -21,7 +21,7 @@ const fn number(digits: &str) -> u32 {
     number
 }
 
-/// The version of the library that is linked, in the form of [`VERSION`]: 9000 is 0.9.0.
+/// The version of the library that is linked, in the form of [`VERSION`]: 10000 is 0.10.0.
 ///
 /// ```
 /// assert_eq!(gondzselu::version(), gondzselu::VERSION);
@@ -74,9 +74,9 @@ fn dotted(version: u32) -> [u32; 3] {
 /// Checks that the library linked has this crate's version and memories of the same sizes. It
 /// costs three calls that give a number.
 ///
-/// Who starts a store, answers or writes a file, or adds up a log need not call this: it is checked
-/// there, with a panic where they differ. A program that would rather stop in its own way calls it
-/// first.
+/// Who starts a store, answers, writes or draws a file, or adds up a log need not call this: it is
+/// checked there, with a panic where they differ. A program that would rather stop in its own way
+/// calls it first.
 ///
 /// ```
 /// assert_eq!(gondzselu::check_library(), Ok(()));

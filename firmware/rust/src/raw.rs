@@ -88,6 +88,20 @@ extern "C" {
         output_length: usize,
         length: *mut u32,
     ) -> u8;
+    fn gondzselu_load(
+        seed: u32,
+        cards: u32,
+        homes: *const u8,
+        homes_length: usize,
+        copies: *const u8,
+        copies_length: usize,
+        primaries: *const u8,
+        primaries_length: usize,
+        steps: u32,
+        output: *mut u8,
+        output_length: usize,
+        length: *mut u32,
+    ) -> u8;
     fn gondzselu_sentence(
         step: u32,
         refusal: u8,
@@ -160,6 +174,29 @@ pub fn write(p: Placement<'_>, codes: &[u8], arguments: &[u8], output: &mut [u8]
             codes.len(),
             arguments.as_ptr(),
             arguments.len(),
+            output.as_mut_ptr(),
+            output.len(),
+            &mut length,
+        )
+    };
+    (result, length)
+}
+
+/// The refusal and the length.
+pub fn load(seed: u32, p: Placement<'_>, steps: u32, output: &mut [u8]) -> (u8, u32) {
+    let mut length = 0;
+    // SAFETY: four slices with their lengths, and a place for the file's length.
+    let result = unsafe {
+        gondzselu_load(
+            seed,
+            p.cards.into(),
+            p.homes.as_ptr(),
+            p.homes.len(),
+            p.copies.as_ptr(),
+            p.copies.len(),
+            p.primaries.as_ptr(),
+            p.primaries.len(),
+            steps,
             output.as_mut_ptr(),
             output.len(),
             &mut length,

@@ -3,6 +3,7 @@
 
 mod adding;
 mod guide;
+pub mod loads;
 pub mod logs;
 mod scenes;
 mod spoil;
@@ -34,13 +35,15 @@ pub enum Kind {
     Full,
     /// Codes and arguments near their ranges, most of them refused.
     Near,
+    /// Steps drawn from a seed (RULES 17).
+    Load,
     /// Steps of random bytes.
     Bytes,
     /// A file that is refused, or nearly.
     Spoiled,
 }
 
-pub const KINDS: [Kind; 11] = [
+pub const KINDS: [Kind; 12] = [
     Kind::Guided,
     Kind::Tiny,
     Kind::Behind,
@@ -50,12 +53,13 @@ pub const KINDS: [Kind; 11] = [
     Kind::Held,
     Kind::Full,
     Kind::Near,
+    Kind::Load,
     Kind::Bytes,
     Kind::Spoiled,
 ];
 
 /// Of a hundred files, how many of each kind.
-const SHARES: [usize; 11] = [32, 11, 6, 5, 5, 7, 7, 2, 8, 4, 13];
+const SHARES: [usize; 12] = [32, 11, 6, 5, 5, 7, 7, 2, 5, 5, 2, 13];
 
 /// One file of a seed, with its kind.
 pub fn file(seed: u64, item: u64) -> (Kind, Vec<u8>) {
@@ -82,6 +86,7 @@ pub fn file_of(kind: Kind, random: &mut Random) -> Vec<u8> {
         Kind::Held => scenes::inbox(random, true),
         Kind::Full => scenes::full(random),
         Kind::Near => unguided(random, near),
+        Kind::Load => loads::run(random),
         Kind::Bytes => unguided(random, |random, _| {
             (random.byte(0, 255), random.bits().to_le_bytes())
         }),

@@ -5,9 +5,10 @@
 //! makes files from a seed, `statistics` tells what files contain and what they must reach,
 //! `memory` has a state in the words of a store, `by_hand` makes states that no run needs to reach,
 //! `sentence` puts refusals into words, `logs` has what totals are made of, `stored`, `view`, `say`,
-//! `compose` and `sums` have the files that the tree keeps (`folder`), `selfcheck`, `consistency` and
-//! `applied` try the model itself, `library` compares the store with it, `writing` a writer of run
-//! files, `totalling` readers of logs, and `roundtrip` the programs `view` and `compose`.
+//! `compose`, `sums` and `loads` have the files that the tree keeps (`folder`), `selfcheck`,
+//! `consistency` and `applied` try the model itself, `library` compares the store with it, `writing` a
+//! writer of run files, `loading` a drawer of loads, `totalling` readers of logs, and `roundtrip` the
+//! programs `view` and `compose`.
 
 pub mod applied;
 pub mod by_hand;
@@ -17,6 +18,8 @@ pub mod folder;
 pub mod generate;
 #[cfg(feature = "library")]
 pub mod library;
+pub mod loading;
+pub mod loads;
 pub mod logs;
 pub mod memory;
 pub mod model;

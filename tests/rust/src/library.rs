@@ -1,9 +1,10 @@
 //! The proved store, linked as a static library (feature `library`), against the model: whole
 //! files, the same steps one by one, what a panel reads, states made by hand, sentences, run files
-//! from tables, and totals of logs.
+//! from tables, loads, and totals of logs.
 
 mod c;
 mod calls;
+pub mod load;
 pub mod sentences;
 pub mod states;
 pub mod totals;
@@ -22,8 +23,8 @@ use crate::named;
 use crate::random::Random;
 use calls::Calls;
 
-/// Version 0.9.0.
-const VERSION: u32 = 9_000;
+/// Version 0.10.0.
+const VERSION: u32 = 10_000;
 
 /// What lies in a lent output before.
 const FILL: u8 = 0xA5;

@@ -1,5 +1,7 @@
 //! `compare`: the model's answers, generated files and checks, from the command line.
 
+mod usage;
+
 use std::io::Write;
 use std::path::Path;
 use std::process::ExitCode;
@@ -9,6 +11,9 @@ use gondzselu_model::folder;
 use gondzselu_model::generate::{self, Kind};
 #[cfg(feature = "library")]
 use gondzselu_model::library;
+#[cfg(feature = "library")]
+use gondzselu_model::loading;
+use gondzselu_model::loads;
 use gondzselu_model::model::files::{program_output, RawStep, Run};
 use gondzselu_model::named;
 use gondzselu_model::random::Random;
@@ -24,39 +29,7 @@ use gondzselu_model::totalling;
 use gondzselu_model::view;
 #[cfg(feature = "library")]
 use gondzselu_model::writing;
-
-const USAGE: &str = "compare names                    K1 to K13: name, file and answer in hex
-compare sentences                a sentence for each refusal of a step; with the feature
-                                 library, after sentences-library
-compare view FILE                a run file and its answers in words
-compare say FILE                 the refused steps of an answer file in sentences
-compare compose FILE             a run in words as a run file, on standard output
-compare sum FILE                 the totals by card of a run file
-compare generate SEED COUNT DIR  writes run files and the model's answers
-compare stored DIR               writes the runs that crates/runs keeps, with the model's answers
-compare views DIR                writes the runs that crates/view keeps, with what view prints
-compare says DIR                 writes the inputs that crates/say keeps, with what say prints
-compare composes DIR             writes the texts that crates/compose keeps, with what compose writes
-compare sums DIR                 writes the runs that crates/sums keeps, with what sums prints
-compare statistics SEED COUNT    what generated files contain
-compare self SEED COUNT          checks the model against itself
-compare printed BIN SEED COUNT   runs the program sums of a folder on files
-compare roundtrip BIN SEED COUNT runs the programs view and compose of a folder on files and on what
-                                 view prints of them, and compose on spoiled texts
-compare spoiled SEED ITEM COUNT  the spoiled text of one of them
-compare library SEED COUNT       compares the library on files (feature library)
-compare steps SEED COUNT         the same, step by step, with what the memories show
-compare states SEED COUNT        compares it on states made by hand, and on K1 to K13
-compare sentences-library        compares its sentences
-compare write SEED COUNT         compares the run files that it writes from tables
-compare totals SEED COUNT        compares its totals of logs, also of those of runs
-
-From COUNT 1,000 on, each also fails where the files miss something that they must reach: a
-refusal, a code or function taken, a message held, a sum about the top, a kind of message
-delivered, a value, a size at its least or most, a limit; where the texts miss a message or an
-answer; where the tables miss a refusal, a reason for it, a size or a length of the output; where
-the logs miss a length, a card, an operand or a refusal, or those of runs are too few; and from
-10,000 on, where the states are all of one sort or miss a result.";
+use usage::USAGE;
 
 fn main() -> ExitCode {
     let words: Vec<String> = std::env::args().skip(1).collect();
@@ -68,12 +41,15 @@ fn main() -> ExitCode {
         ["say", file] => say_file(file),
         ["compose", file] => compose_file(file),
         ["sum", file] => read(file).map(|file| print!("{}", sums::sums(&file))),
+        ["load", seed, steps, file] => load_file(&[seed, steps], file),
         ["generate", seed, count, directory] => write(seed, count, Path::new(directory)),
         ["stored", directory] => folder::write(Path::new(directory), &stored::files()),
         ["views", directory] => folder::write(Path::new(directory), &view::cases::files()),
         ["says", directory] => folder::write(Path::new(directory), &say::cases::files()),
         ["composes", directory] => folder::write(Path::new(directory), &compose::cases::files()),
         ["sums", directory] => folder::write(Path::new(directory), &sums::cases::files()),
+        ["loads", directory] => folder::write(Path::new(directory), &loads::cases::files()),
+        ["loaded", programs, seed, count] => loaded(Path::new(programs), seed, count),
         ["printed", programs, seed, count] => printed(Path::new(programs), seed, count),
         ["roundtrip", programs, seed, count] => roundtrips(Path::new(programs), seed, count),
         ["spoiled", seed, item, count] => spoiled(seed, item, count),
@@ -95,6 +71,8 @@ fn main() -> ExitCode {
             items(seed, count, library::write::compare, missing)
         }
         #[cfg(feature = "library")]
+        ["loading", seed, count] => library_loads(seed, count),
+        #[cfg(feature = "library")]
         ["totals", seed, count] => {
             let missing = totalling::Compared::missing;
             items(seed, count, library::totals::compare, missing)
@@ -112,6 +90,14 @@ fn main() -> ExitCode {
 
 fn number(word: &str) -> Result<u64, String> {
     word.parse().map_err(|_| format!("no number: {word}"))
+}
+
+/// Fails where something is missing, of so many that all must be there.
+fn reached(count: u64, least: u64, missing: Vec<String>) -> Result<(), String> {
+    match count < least {
+        true => Ok(()),
+        false => statistics::none_missing(missing),
+    }
 }
 
 fn hex(bytes: &[u8]) -> String {
@@ -166,6 +152,11 @@ fn compose_file(file: &str) -> Result<(), String> {
     print_bytes(&file)
 }
 
+fn load_file(arguments: &[&str], file: &str) -> Result<(), String> {
+    let load = loads::load(arguments, &read(file)?).map_err(|why| format!("load: {why}"))?;
+    print_bytes(&load)
+}
+
 fn print_bytes(bytes: &[u8]) -> Result<(), String> {
     let written = std::io::stdout().write_all(bytes);
     written.map_err(|error| format!("standard output: {error}"))
@@ -186,10 +177,21 @@ fn printed(programs: &Path, seed: &str, count: &str) -> Result<(), String> {
             .map_err(|words| format!("seed {seed} item {item}: {words}"))?;
     }
     println!("{compared}");
-    match count < statistics::FILES {
-        true => Ok(()),
-        false => statistics::none_missing(compared.missing()),
+    reached(count, statistics::FILES, compared.missing())
+}
+
+/// Loads by `load` of a folder.
+fn loaded(programs: &Path, seed: &str, count: &str) -> Result<(), String> {
+    let (seed, count) = (number(seed)?, number(count)?);
+    let run = |words: &[String], input: &[u8]| roundtrip::run_with(programs, "load", words, input);
+    let cases = loads::loaded::kept(&run)?;
+    let mut compared = loads::loaded::Compared::default();
+    for item in 0..count {
+        loads::loaded::compare(item, &mut Random::new(seed, item), &run, &mut compared)
+            .map_err(|words| format!("seed {seed} item {item}: {words}"))?;
     }
+    println!("kept cases {cases}; {compared}");
+    reached(count, loads::loaded::ITEMS, compared.missing())
 }
 
 /// Files and texts by `view` and `compose` of a folder.
@@ -199,10 +201,7 @@ fn roundtrips(programs: &Path, seed: &str, count: &str) -> Result<(), String> {
     let cases = roundtrip::cases(&run)?;
     let compared = roundtrip::all(seed, count, &run)?;
     println!("texts by hand {cases}; {compared}");
-    match count < statistics::FILES {
-        true => Ok(()),
-        false => statistics::none_missing(compared.missing()),
-    }
+    reached(count, statistics::FILES, compared.missing())
 }
 
 /// Does something with each file of a seed, prints the statistics, and fails where so many files
@@ -221,10 +220,7 @@ fn each(
             .map_err(|words| format!("seed {seed} item {item} ({kind:?}): {words}"))?;
     }
     println!("{statistics}");
-    match count < statistics::FILES {
-        true => Ok(()),
-        false => statistics::none_missing(statistics.missing()),
-    }
+    reached(count, statistics::FILES, statistics.missing())
 }
 
 /// Writes each file as `N.run` and its answer as `N.answer`.
@@ -280,10 +276,16 @@ fn states(seed: &str, count: &str) -> Result<(), String> {
     }
     let mut missing = statistics::by_hand(compared.states, compared.ill_sized, &compared.results);
     missing.extend(statistics::faults(&compared.faults));
-    match count < statistics::STATES {
-        true => Ok(()),
-        false => statistics::none_missing(missing),
-    }
+    reached(count, statistics::STATES, missing)
+}
+
+/// Seeds at their ends, then loads of a seed.
+#[cfg(feature = "library")]
+fn library_loads(seed: &str, count: &str) -> Result<(), String> {
+    let ends = library::load::ends()?;
+    println!("loads of seeds at their ends {ends}");
+    let missing = loading::Compared::missing;
+    items(seed, count, library::load::compare, missing)
 }
 
 /// Every refusal, steps about every power of ten, outputs of every length.
@@ -309,8 +311,5 @@ fn items<Compared: Default + std::fmt::Display>(
             .map_err(|words| format!("seed {seed} item {item}: {words}"))?;
     }
     println!("{compared}");
-    match count < statistics::FILES {
-        true => Ok(()),
-        false => statistics::none_missing(missing(&compared)),
-    }
+    reached(count, statistics::FILES, missing(&compared))
 }

@@ -10,6 +10,7 @@ pub mod files;
 mod found;
 mod functions;
 mod judge;
+pub mod load;
 pub mod placement;
 pub mod results;
 pub mod sized;

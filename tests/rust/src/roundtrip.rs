@@ -32,10 +32,21 @@ pub type Runner<'a> = &'a (dyn Fn(&str, &[u8]) -> Result<Ended, String> + Sync);
 
 /// Runs a program of a folder.
 pub fn run(folder: &Path, name: &str, input: &[u8]) -> Result<Ended, String> {
+    run_with(folder, name, &[], input)
+}
+
+/// The same, with arguments.
+pub fn run_with(
+    folder: &Path,
+    name: &str,
+    arguments: &[String],
+    input: &[u8],
+) -> Result<Ended, String> {
     let path = folder.join(name);
     let said = |error| format!("{}: {error}", path.display());
     let mut command = Command::new(&path);
     command
+        .args(arguments)
         .stdin(Stdio::piped())
         .stdout(Stdio::piped())
         .stderr(Stdio::piped());
@@ -182,6 +193,16 @@ pub fn wrote(what: &str, ended: Ended, wanted: &[u8]) -> Result<(), String> {
 
 /// Whether `compose` did with a text what the model does.
 fn composed(what: &str, ended: Ended, wanted: &Result<Vec<u8>, String>) -> Result<(), String> {
+    did("compose", what, ended, wanted)
+}
+
+/// Whether a program wrote a file, or this message and nothing else.
+pub fn did(
+    program: &str,
+    what: &str,
+    ended: Ended,
+    wanted: &Result<Vec<u8>, String>,
+) -> Result<(), String> {
     let message = match wanted {
         Ok(file) => return wrote(what, ended, file),
         Err(message) => message,
@@ -191,7 +212,7 @@ fn composed(what: &str, ended: Ended, wanted: &Result<Vec<u8>, String>) -> Resul
     }
     match ended
         .errors
-        .starts_with(format!("compose: {message};").as_bytes())
+        .starts_with(format!("{program}: {message};").as_bytes())
     {
         true => Ok(()),
         false => Err(format!("{what}: {}, not: {message}", said(&ended.errors))),

@@ -127,7 +127,8 @@ pub fn compare(
     let near = length - 2..=length + 3;
     let far = [100, 40_000].map(|more| length + random.between(4, more));
     for lent in near.chain(far).chain([0]) {
-        let refusal = compare_lent(&tables, lent, random, writer)
+        let wanted = |output: &mut [u8]| tables.write_into(output);
+        let refusal = compare_lent(lent, random, |output| writer(&tables, output), wanted)
             .map_err(|words| format!("{}: {lent} bytes lent: {words}", told(&tables)))?;
         *compared.calls.entry(refusal).or_default() += 1;
         if let Some(file) = &file {
@@ -155,12 +156,13 @@ fn told(tables: &Tables) -> String {
     format!("{cards} cards, tables of {lengths:?} bytes, {faults:?}")
 }
 
-/// The answer, and the whole page about the output: the file, and all else as it was.
-fn compare_lent(
-    tables: &Tables,
+/// What a writer answers, and the whole page about an output of so many bytes: the file, and all else
+/// as it was.
+pub fn compare_lent(
     lent: usize,
     random: &mut Random,
-    writer: Writer,
+    writer: impl FnOnce(&mut [u8]) -> (u8, u32),
+    model: impl FnOnce(&mut [u8]) -> (u8, u32),
 ) -> Result<u8, String> {
     let words = (FENCE + lent + FENCE).div_ceil(8);
     let mut found: Vec<u8> = (0..words)
@@ -168,8 +170,8 @@ fn compare_lent(
         .collect();
     let mut wanted = found.clone();
     let lent = FENCE..FENCE + lent;
-    let answer = writer(tables, &mut found[lent.clone()]);
-    let expected = tables.write_into(&mut wanted[lent]);
+    let answer = writer(&mut found[lent.clone()]);
+    let expected = model(&mut wanted[lent]);
     if answer != expected {
         return Err(format!("{answer:?}, not {expected:?}"));
     }

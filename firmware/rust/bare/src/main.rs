@@ -10,8 +10,8 @@ use core::panic::PanicInfo;
 use core::ptr::addr_of_mut;
 
 use gondzselu::{
-    sentence, total, total_by_card, write, Condition, Function, Placement, Refusal, Step, Steps,
-    Store, Taken, Tally,
+    load, sentence, total, total_by_card, write, Condition, Function, Placement, Refusal, Step,
+    Steps, Store, Taken, Tally,
 };
 
 #[link(name = "c")]
@@ -115,6 +115,20 @@ fn play(store: &mut Store) -> i32 {
     let (cards, operands) = ([2, 0, 2], [4_294_967_295, 3, 5]);
     if [total, total_by_card].map(|call| call(&cards, &operands)) != [Ok(7); 2] {
         return 9;
+    }
+    // RULES 17.8.
+    let two = Placement {
+        cards: 2,
+        homes: &[0, 1],
+        copies: &[3, 2],
+        primaries: &[0, 1],
+    };
+    let mut drawn = [0; 38];
+    if load(2, two, 3, &mut drawn) != Ok(38) {
+        return 10;
+    }
+    if drawn[11..23] != [2, 3, 6, 0, 1, 2, 0, 0x8D, 0xB7, 0, 0, 1] {
+        return 11;
     }
     0
 }

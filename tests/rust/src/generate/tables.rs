@@ -36,6 +36,19 @@ pub const WAYS: [Way; 11] = [
     Way::AbsentPrimary,
 ];
 
+/// The ways that a placement alone can be spoiled in.
+pub const PLACED: [Way; 9] = [
+    Way::Cards,
+    Way::Registers,
+    Way::Tasks,
+    Way::Primaries,
+    Way::NoCopy,
+    Way::CopyOnAbsentCard,
+    Way::HomeOnAbsentCard,
+    Way::PrimaryWithoutCopy,
+    Way::AbsentPrimary,
+];
+
 /// Good ones, or spoiled in one way, sometimes in a second and a third too.
 pub fn tables(random: &mut Random) -> Tables {
     let mut tables = good(random);
@@ -71,7 +84,7 @@ fn another(random: &mut Random, length: usize) -> usize {
     random.pick(&lengths)
 }
 
-fn spoil(random: &mut Random, tables: &mut Tables, way: Way) {
+pub(super) fn spoil(random: &mut Random, tables: &mut Tables, way: Way) {
     let cards = tables.cards.clamp(1, 8) as u8;
     let register = random.between(0, tables.copies.len().max(1) - 1);
     let absent = random.byte(cards, 255);

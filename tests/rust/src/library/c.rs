@@ -3,6 +3,7 @@
 
 use gondzselu::{Store, Tally};
 
+use crate::model::load::Load;
 use crate::model::write::Tables;
 
 extern "C" {
@@ -44,6 +45,20 @@ extern "C" {
         codes_length: usize,
         arguments: *const u8,
         arguments_length: usize,
+        output: *mut u8,
+        output_length: usize,
+        length: *mut u32,
+    ) -> u8;
+    fn gondzselu_load(
+        seed: u32,
+        cards: u32,
+        homes: *const u8,
+        homes_length: usize,
+        copies: *const u8,
+        copies_length: usize,
+        primaries: *const u8,
+        primaries_length: usize,
+        steps: u32,
         output: *mut u8,
         output_length: usize,
         length: *mut u32,
@@ -171,6 +186,28 @@ pub fn write(tables: &Tables, output: &mut [u8]) -> (u8, u32) {
             codes.len(),
             arguments.as_ptr(),
             arguments.len(),
+            output.as_mut_ptr(),
+            output.len(),
+            &mut length,
+        )
+    };
+    (refusal, length)
+}
+
+/// The refusal, and the file's length.
+pub fn load(load: &Load, output: &mut [u8]) -> (u8, u32) {
+    let mut length = BEFORE;
+    let refusal = unsafe {
+        gondzselu_load(
+            load.seed,
+            load.cards,
+            load.homes.as_ptr(),
+            load.homes.len(),
+            load.copies.as_ptr(),
+            load.copies.len(),
+            load.primaries.as_ptr(),
+            load.primaries.len(),
+            load.steps,
             output.as_mut_ptr(),
             output.len(),
             &mut length,

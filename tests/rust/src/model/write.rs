@@ -19,6 +19,38 @@ pub struct Tables {
     pub arguments: Vec<u8>,
 }
 
+/// The placement of tables whose sizes are in range, or 4.
+pub fn placed(
+    cards: u32,
+    homes: &[u8],
+    copies: &[u8],
+    primaries: &[u8],
+) -> Result<Placement, Refusal> {
+    let places = copies.iter().zip(primaries);
+    let place = |(&holders, &primary): (&u8, &u8)| Place { holders, primary };
+    let placement = Placement {
+        cards: cards as u8,
+        home: homes.to_vec(),
+        registers: places.map(place).collect(),
+    };
+    placement.judge()?;
+    Ok(placement)
+}
+
+/// A file at the start of a lent output: 0 and its length. Or its refusal, or 5 for an output that
+/// is too short; each with 0, and the output as it was.
+pub fn lend(file: Result<Vec<u8>, Refusal>, output: &mut [u8]) -> (u8, u32) {
+    let file = match file {
+        Ok(file) => file,
+        Err(refusal) => return (refusal, 0),
+    };
+    let Some(lent) = output.get_mut(..file.len()) else {
+        return (5, 0);
+    };
+    lent.copy_from_slice(&file);
+    (0, file.len() as u32)
+}
+
 impl Tables {
     /// What a reader gets from a file.
     pub fn of(run: &Run) -> Tables {
@@ -51,14 +83,7 @@ impl Tables {
         if !self.sized() {
             return Err(3);
         }
-        let places = self.copies.iter().zip(&self.primaries);
-        let place = |(&holders, &primary): (&u8, &u8)| Place { holders, primary };
-        let placement = Placement {
-            cards: self.cards as u8,
-            home: self.homes.clone(),
-            registers: places.map(place).collect(),
-        };
-        placement.judge()?;
+        let placement = placed(self.cards, &self.homes, &self.copies, &self.primaries)?;
         let arguments = self.arguments.chunks_exact(8);
         let arguments = arguments.map(|bytes| bytes.try_into().expect("eight bytes"));
         let steps = self.codes.iter().copied().zip(arguments).collect();
@@ -68,15 +93,7 @@ impl Tables {
     /// The file at the start of a lent output: 0 and its length. Or 3, 4, then 5 for an output that
     /// is too short; each with 0, and the output as it was.
     pub fn write_into(&self, output: &mut [u8]) -> (u8, u32) {
-        let file = match self.file() {
-            Ok(file) => file,
-            Err(refusal) => return (refusal, 0),
-        };
-        let Some(lent) = output.get_mut(..file.len()) else {
-            return (5, 0);
-        };
-        lent.copy_from_slice(&file);
-        (0, file.len() as u32)
+        lend(self.file(), output)
     }
 
     /// Why they are refused, by the numbers of `FAULTS`; of tables with a fault of 3 none of 4.

@@ -233,4 +233,7 @@ fn programs_are_run() {
     let says = run(bin, "sh", b"echo out; echo err >&2; kill -11 $$").expect("a program");
     assert!(!says.well && says.output == b"out\n" && says.errors == b"err\n");
     assert!(run(bin, "no such program", b"").is_err());
+    let words = ["-c", "printf '%s.' \"$@\"", "sh", "", " a b", "\u{661}"].map(String::from);
+    let said = run_with(bin, "sh", &words, b"").expect("a program");
+    assert!(said.well && said.output == ". a b.\u{661}.".as_bytes());
 }

@@ -4,6 +4,7 @@
 mod tests;
 
 use super::{Counts, Delivered, Statistics, Sum, Way, LIMITS};
+use crate::generate::Kind;
 use crate::model::results::{DONE, HELD};
 use crate::model::sized::FAULTS;
 use crate::model::FUNCTIONS;
@@ -64,7 +65,9 @@ impl Statistics {
                 (format!("{function} {name}"), count)
             })
         });
+        let loads = times(&self.kinds, format!("{:?}", Kind::Load));
         vec![
+            words("files that are", [("loads", loads)]),
             numbers("files refused with", 1..=4, &self.files),
             numbers("steps refused with", refusals(), &self.results),
             numbers("steps taken with code", 1..=10, &self.codes),

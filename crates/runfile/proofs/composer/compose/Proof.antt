@@ -1,9 +1,14 @@
-use mathlib.Core.Path.{_≡_, sym, _∙_}
+use Prim.Native.Nat.{_+_}
+use mathlib.Core.Path.{_≡_, refl, sym, ap, _∙_}
 use mathlib.Core.Bool.{true}
+use mathlib.Core.List.{_++_}
 use native.Mathlib.Omega.{arith}
+use lib.ListN.{length}
+use lib.Seq.{sets}
 use borrow.Author.Tests.{not-true, not-false}
-use Rattle.runfile.specs.Compose.{Tables, tables, composedLength, tablesSized, composeRefusal, composeOutput, composedOf}
-use Rattle.runfile.proofs.ComposeNumbers.{sized-tables, number-is, has-room, said-refused, said-written}
+use Rattle.names.specs.Placement.{tasks, registers}
+use Rattle.runfile.specs.Compose.{Tables, tables, tablesSized}
+use Rattle.runfile.proofs.ComposeNumbers.{sized-tables, said-unsized, said-refused, said-written, room-behind}
 use borrow.Author.Needs.{needs}
 use Rattle.runfile.proofs.composer.compose.Statement.{statement}
 use Rattle.runfile.proofs.composer.compose.Tie as tie
@@ -12,63 +17,72 @@ tables-sized-requires : tie.Need-tables-sized-requires
 tables-sized-requires c κs = search needs
 
 returns : tie.Need-returns
-unfolding composeRefusal composedOf composeOutput
-returns c = let unsized = sym (c .before .tables-sized .ensures) ∙ not-true _ (c .if1 .taken) in (rw unsized, rw unsized)
-
-length-of-requires : tie.Need-length-of-requires
-length-of-requires c κs =
+returns c =
     let a = c .before .before .before .before .before .before .before .before .args in
     let t : Tables = tables (a .cards) (a .homes .now) (a .copies .now) (a .primaries .now) (a .codes .now) (a .arguments .now) in
-    let h = sized-tables t .0 (sym (c .before .tables-sized .ensures) ∙ not-false _ (c .if1 .left)) in
-    (h .2 .1, h .1 .1, h .3)
+    said-unsized t (a .out .now) (sym (c .before .tables-sized .ensures) ∙ not-true _ (c .if1 .taken))
 
-is-placed-requires : tie.Need-is-placed-requires
-is-placed-requires c κs = search needs
-
-placed-number-requires : tie.Need-placed-number-requires
-placed-number-requires c κs = search needs
-
-returns-2 : tie.Need-returns-2
-unfolding composedLength
-returns-2 c =
-    let a = c .before .before .before .before .before .before .before .before .before .before .before .before .args in
+cast-head : tie.Need-cast-head
+cast-head c =
+    let a = c .before .before .before .before .before .before .before .before .args in
     let t : Tables = tables (a .cards) (a .homes .now) (a .copies .now) (a .primaries .now) (a .codes .now) (a .arguments .now) in
-    let sized : tablesSized t ≡ true = sym (c .before .before .before .before .before .tables-sized .ensures) ∙ not-false _ (c .before .before .before .before .if1 .left) in
-    let number : composeRefusal t (a .out .now) ≡ c .before .placed-number .result =
-    number-is t (a .out .now) _ _ _ sized (c .before .before .is-placed .ensures) (c .before .before .before .length-of .ensures) (c .before .placed-number .ensures) in
-    said-refused t (a .out .now) _ number (c .if2 .taken)
+    let s : tablesSized t ≡ true = sym (c .before .tables-sized .ensures) ∙ not-false _ (c .if1 .left) in
+    omega (arith, sized-tables t .0 s .3)
 
-put-file-requires : tie.Need-put-file-requires
-unfolding composedLength
-put-file-requires c κs =
-    let a = c .before .before .before .before .before .before .before .before .before .before .before .before .before .args in
-    let t : Tables = tables (a .cards) (a .homes .now) (a .copies .now) (a .primaries .now) (a .codes .now) (a .arguments .now) in
-    let sized : tablesSized t ≡ true = sym (c .before .before .before .before .before .before .tables-sized .ensures) ∙ not-false _ (c .before .before .before .before .before .if1 .left) in
-    let number : composeRefusal t (a .out .now) ≡ c .before .before .placed-number .result =
-    number-is t (a .out .now) _ _ _ sized (c .before .before .before .is-placed .ensures) (c .before .before .before .before .length-of .ensures) (c .before .before .placed-number .ensures) in
-    has-room t (a .out .now) (number ∙ c .before .if2 .left)
+head-requires : tie.Need-head-requires
+head-requires c κs = search needs
 
-cast-t17 : tie.Need-cast-t17
-cast-t17 c =
-    let a = c .before .before .before .before .before .before .before .before .before .before .before .before .before .before .before .before .args in
+add-put-steps : tie.Need-add-put-steps
+add-put-steps c = search needs
+
+add-put-steps-2 : tie.Need-add-put-steps-2
+add-put-steps-2 c =
+    let a = c .before .before .before .before .before .before .before .before .before .before .before .before .before .before .before .args in
     let t : Tables = tables (a .cards) (a .homes .now) (a .copies .now) (a .primaries .now) (a .codes .now) (a .arguments .now) in
-    let sized : tablesSized t ≡ true = sym (c .before .before .before .before .before .before .before .before .before .tables-sized .ensures) ∙ not-false _ (c .before .before .before .before .before .before .before .before .if1 .left) in
-    let h = sized-tables t .0 sized in
-    omega (arith, c .before .before .before .before .before .before .before .length-of .ensures, h .1 .1, h .2 .1, h .3)
+    let s : tablesSized t ≡ true = sym (c .before .before .before .before .before .before .before .before .tables-sized .ensures) ∙ not-false _ (c .before .before .before .before .before .before .before .if1 .left) in
+    let h = sized-tables t .0 s in
+    omega (arith, h .1 .1, h .2 .1, h .4)
+
+add-put-steps-3 : tie.Need-add-put-steps-3
+add-put-steps-3 c =
+    let a = c .before .before .before .before .before .before .before .before .before .before .before .before .before .before .before .args in
+    let t : Tables = tables (a .cards) (a .homes .now) (a .copies .now) (a .primaries .now) (a .codes .now) (a .arguments .now) in
+    let s : tablesSized t ≡ true = sym (c .before .before .before .before .before .before .before .before .tables-sized .ensures) ∙ not-false _ (c .before .before .before .before .before .before .before .if1 .left) in
+    let h = sized-tables t .0 s in
+    omega (arith, h .1 .1, h .2 .1, h .4)
+
+put-steps-requires : tie.Need-put-steps-requires
+put-steps-requires c κs =
+    let a = c .before .before .before .before .before .before .before .before .before .before .before .before .before .before .before .args in
+    let t : Tables = tables (a .cards) (a .homes .now) (a .copies .now) (a .primaries .now) (a .codes .now) (a .arguments .now) in
+    let s : tablesSized t ≡ true = sym (c .before .before .before .before .before .before .before .before .tables-sized .ensures) ∙ not-false _ (c .before .before .before .before .before .before .before .if1 .left) in
+    let none = sym (ap (λ r. r .refusal) (c .before .before .before .before .before .head .ensures .0)) ∙ c .before .if2 .taken in
+    omega (arith, room-behind t (a .out .now) s none, c .before .before .before .before .before .head .kept .1 .1 .1 .1 .1 .0)
 
 same-length : tie.Need-same-length
 same-length c = search needs
 
-returns-3 : tie.Need-returns-3
-unfolding composedLength
-returns-3 c =
-    let a = c .before .before .before .before .before .before .before .before .before .before .before .before .before .before .before .before .args in
+returns-2 : tie.Need-returns-2
+returns-2 c =
+    let a = c .before .before .before .before .before .before .before .before .before .before .before .before .before .before .before .before .before .before .args in
     let t : Tables = tables (a .cards) (a .homes .now) (a .copies .now) (a .primaries .now) (a .codes .now) (a .arguments .now) in
-    let sized : tablesSized t ≡ true = sym (c .before .before .before .before .before .before .before .before .before .tables-sized .ensures) ∙ not-false _ (c .before .before .before .before .before .before .before .before .if1 .left) in
-    let number : composeRefusal t (a .out .now) ≡ c .before .before .before .before .before .placed-number .result =
-    number-is t (a .out .now) _ _ _ sized (c .before .before .before .before .before .before .is-placed .ensures) (c .before .before .before .before .before .before .before .length-of .ensures) (c .before .before .before .before .before .placed-number .ensures) in
-    let said = said-written t (a .out .now) _ (number ∙ c .before .before .before .before .if2 .left) (c .before .before .before .before .before .before .before .length-of .ensures) in
-    (said .0, c .before .before .put-file .ensures ∙ said .1)
+    let s : tablesSized t ≡ true = sym (c .before .before .before .before .before .before .before .before .before .before .before .tables-sized .ensures) ∙ not-false _ (c .before .before .before .before .before .before .before .before .before .before .if1 .left) in
+    let h = c .before .before .before .before .before .before .before .before .head in
+    let none = sym (ap (λ r. r .refusal) (h .ensures .0)) ∙ c .before .before .before .before .if2 .taken in
+    let said = said-written t (a .out .now) s none _ refl in
+    (h .ensures .0 ∙ said .0, c .before .before .put-steps .ensures ∙ ap (λ o. sets o (5 + tasks (t .placement) + registers (t .placement) + length (t .placement .primaries)) (t .codes ++ t .arguments)) (h .ensures .1) ∙ said .1)
+
+same-length-2 : tie.Need-same-length-2
+same-length-2 c = search needs
+
+returns-3 : tie.Need-returns-3
+returns-3 c =
+    let a = c .before .before .before .before .before .before .before .before .before .before .before .before .before .before .args in
+    let t : Tables = tables (a .cards) (a .homes .now) (a .copies .now) (a .primaries .now) (a .codes .now) (a .arguments .now) in
+    let s : tablesSized t ≡ true = sym (c .before .before .before .before .before .before .before .tables-sized .ensures) ∙ not-false _ (c .before .before .before .before .before .before .if1 .left) in
+    let h = c .before .before .before .before .head in
+    let said = said-refused t (a .out .now) s (λ e. c .if2 .left (ap (λ r. r .refusal) (h .ensures .0) ∙ e)) in
+    (h .ensures .0 ∙ said .0, h .ensures .1 ∙ said .1)
 
 pub compose-spec : {M : Type 1} → statement M
 compose-spec =
@@ -76,11 +90,13 @@ compose-spec =
     (tie.spec
     tables-sized-requires
     returns
-    length-of-requires
-    is-placed-requires
-    placed-number-requires
-    returns-2
-    put-file-requires
-    cast-t17
+    cast-head
+    head-requires
+    add-put-steps
+    add-put-steps-2
+    add-put-steps-3
+    put-steps-requires
     same-length
+    returns-2
+    same-length-2
     returns-3)

@@ -33,8 +33,9 @@ fn one_file_does_not() {
     let missing = statistics.missing();
     let total: usize = statistics.needed().iter().map(|one| one.items.len()).sum();
     // It has 22, codes 2 and 3, function 1, and one card, register and task.
-    assert_eq!((total, missing.len()), (64, 64 - 7));
+    assert_eq!((total, missing.len()), (65, 65 - 7));
     for name in [
+        "files that are loads",
         "files refused with 4",
         "steps refused with 34",
         "steps taken with code 10",
@@ -55,7 +56,7 @@ fn one_file_does_not() {
         assert!(!missing.iter().any(|found| found == name), "{name}");
     }
     let said = none_missing(missing).unwrap_err();
-    assert!(said.starts_with("never reached: files refused with 1; "));
+    assert!(said.starts_with("never reached: files that are loads; "));
 }
 
 /// The name of a thing, and how it is taken away.
@@ -65,7 +66,10 @@ type Taken = (&'static str, fn(&mut Statistics));
 #[test]
 fn each_thing_is_looked_for() {
     let all = of_seed(1, FILES);
-    let cases: [Taken; 15] = [
+    let cases: [Taken; 16] = [
+        ("files that are loads", |s| {
+            s.kinds.retain(|kind, _| kind != "Load")
+        }),
         ("files refused with 2", |s| s.files.retain(|&n, _| n != 2)),
         ("steps refused with 35", |s| {
             s.results.retain(|&n, _| n != 35)

@@ -1,0 +1,3 @@
+pub mod Load
+pub mod LoadMeaning
+pub mod Filling
