@@ -7,7 +7,7 @@ use Rattle.lists.specs.Histories.{In}
 use Rattle.lists.specs.Loops.{turns-zero, turns-suc}
 use Rattle.names.specs.Placement.{Placement, tasks, registers, placementRefusal}
 use Rattle.names.specs.declared.Answer.{Answer}
-use Rattle.names.proofs.PlacementLaws.{Sized, Placed, PlacementVerdict, size-out-of-range, misplaced, accepted, placement-verdict}
+use Rattle.names.proofs.PlacementLaws.{Sized, Placed, accepted-is}
 use Rattle.claims.specs.Steps.{RawStep, good, decode}
 use Rattle.claims.specs.Found.{Found, begin}
 use Rattle.claims.specs.FoundRun.{answersFrom}
@@ -51,15 +51,10 @@ module _ (seed : ℕ) (P : Placement) (c : 1 ≤ P .cards) (r : 1 ≤ registers 
       ∙ commands-from n (m + d)
       ∙ ap (λ f. map good (commandsDrawn P (drawAt seed) n (m + drawsTaken P f))) (from-is seed m))
 
-accepted-is : (P : Placement) (n : ℕ) → PlacementVerdict P n → n ≡ 0 → Sized P × Placed P
-accepted-is P n (size-out-of-range h) e = absurd (omega arith)
-accepted-is P n (misplaced h q) e = absurd (omega arith)
-accepted-is P n (accepted h q) e = (h, q)
-
 module _ (seed : ℕ) (P : Placement) (n : ℕ) where
   module _ (ok : placementRefusal P ≡ 0) where
     abbrev sound : Sized P × Placed P
-    sound = accepted-is P 0 (placement-verdict P 0 .0 ok) refl
+    sound = accepted-is P ok
 
     commands : map (decode P) (loadOf seed P n .steps) ≡ map good (commandsDrawn P (drawAt seed) n 0)
     commands =
@@ -76,18 +71,7 @@ module _ (seed : ℕ) (P : Placement) (n : ℕ) where
 
     module _ (few : n ≤ 4096) where
       sized-load : SizedTables (loadTables seed P n)
-      sized-load =
-          let z = sound .0 in
-          sized-tables (loadTables seed P n) .0 (sized-alike seed P n ∙ in-range P n .1 (record {
-            cards-least = z .0 .0;
-            cards-most = z .0 .1;
-            registers-least = z .0 .2;
-            registers-most = z .0 .3;
-            tasks-least = z .0 .4;
-            tasks-most = z .0 .5;
-            steps-most = few;
-            even = z .1;
-          }))
+      sized-load = sized-tables (loadTables seed P n) .0 (sized-alike seed P n ∙ in-range P n .1 (sound .0, few))
 
       back : ReadBack (loadTables seed P n)
       back = read-back (loadTables seed P n) sized-load (sound .1)

@@ -13,13 +13,14 @@ use lib.Seq.{sets, getD-append-add}
 use Rattle.lists.specs.Listings.{listing, listing-all, listing-at, listing-cong, listing-length, listing-snoc, map-listing}
 use Rattle.names.specs.Placement.{Placement, tasks, registers, placed}
 use Rattle.names.specs.Step.{RawStep}
+use Rattle.names.proofs.PlacementLaws.{Sized}
 use Rattle.runfile.specs.RunFile.{joined, fileBytes, sizeBytes, placementBytes}
 use Rattle.runfile.specs.Head.{placedNumber, wholeLength, headSized, headRefusal, headOutput, headOf}
 use Rattle.runfile.specs.Compose.{Tables, stepOf, runFileOf, composed, composedLength, tablesSized, composeRefusal, composeOutput, composedOf}
 use Rattle.runfile.proofs.Joined.{joined-snoc}
 use Rattle.runfile.proofs.TableBytes.{composed-is}
 use Rattle.runfile.proofs.ParallelArrays.{pieces-length}
-use Rattle.runfile.proofs.HeadLaws.{InRange, in-range, has-room, fits}
+use Rattle.runfile.proofs.HeadLaws.{in-range, has-room, fits}
 use Rattle.runfile.proofs.ComposeNumbers.{said-written}
 use Rattle.loads.specs.Load.{loadOf, loadFile, loadOutput}
 use Rattle.loads.specs.LoadMeaning.{loadTables}
@@ -119,8 +120,9 @@ module _ (seed : ℕ) (P : Placement) (n : ℕ) where
         subst (λ m. headOf P m out .refusal ≡ 0 → sets (headOutput P m out) i (t .codes ++ t .arguments) ≡ composeOutput t out) codes-length (λ z. said-written t out s z i q .1) k
         ∙ sym same-output
 
-    pub head-room : headOf P n out .refusal ≡ 0 → InRange P n × (5 + tasks P + registers P + length (P .primaries) + 9 * n ≤ length out)
+    pub head-room : headOf P n out .refusal ≡ 0 → Sized P × (n ≤ 4096) × (5 + tasks P + registers P + length (P .primaries) + 9 * n ≤ length out)
     unfolding headOf
     head-room k =
         let r = has-room P n out k in
-        (in-range P n .0 (r .0), fits P n (length out) (r .0) (r .1) .3)
+        let z = in-range P n .0 (r .0) in
+        (z .0, z .1, fits P n (length out) (r .0) (r .1) .3)

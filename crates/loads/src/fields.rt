@@ -1,12 +1,14 @@
 // The fields of a step, drawn in layout order, and the eight bytes of its argument (RULES 17.3, 3.3).
 ghost use mathlib.Core.Path.{_≡_};
 ghost use Prim.Native.Nat.{_+_, _≤_, _<_};
+ghost use mathlib.Core.Bool.{true};
 ghost use mathlib.Core.List.{_∷_, []};
 ghost use lib.ListN.{length};
 ghost use lib.Seq.{sets};
+ghost use Rattle.names.specs.Placement.{sizesInRange};
 ghost use Rattle.claims.specs.Steps.{among};
 ghost use Rattle.loads.specs.Load.{fields, afterFields, zeros, filled};
-ghost use Rattle.loads.specs.Filling.{argumentOf, InRange};
+ghost use Rattle.loads.specs.Filling.{argumentOf};
 use super::draws::draw;
 use super::draws::function_from;
 use super::draws::next;
@@ -36,7 +38,7 @@ fn names_card(code: u32) -> bool
 
 // A field takes a draw; what is not named takes none.
 pub(crate) fn fields_from(code: u32, state: u32, cards: u32, registers: u32, tasks: u32) -> Fields
-    requires { ⌜ InRange cards registers tasks ⌝ }
+    requires { ⌜ sizesInRange cards registers tasks ≡ true ⌝ }
     ensures argument { λ r. ⌜ argumentOf (r .first) (r .second) (r .function) (r .operand) ≡ filled cards registers tasks (fields code) state zeros ⌝ }
     ensures state { λ r. ⌜ r .state ≡ afterFields (fields code) state ⌝ }
     ensures small { λ r. ⌜ (r .first < 256) × (r .second < 256) × (r .function < 256) ⌝ }

@@ -1,14 +1,14 @@
 // Loads: a run file drawn from a seed, for a placement and a number of steps, into an output that the caller lends (RULES 17).
 ghost use mathlib.Core.Path.{_≡_};
 ghost use Prim.Native.Nat.{_+_, _*_, _≤_, _<_};
+ghost use mathlib.Core.Bool.{true};
 ghost use mathlib.Core.List.{_++_, map};
 ghost use lib.ListN.{length, set};
 ghost use lib.Seq.{sets};
-ghost use Rattle.names.specs.Placement.{placement};
+ghost use Rattle.names.specs.Placement.{placement, sizesInRange};
 ghost use Rattle.runfile.specs.RunFile.{placementIn, fileRefusal, joined};
 ghost use Rattle.runfile.specs.Head.{headOf};
 ghost use Rattle.loads.specs.Load.{afterStep, stepFrom, stepsFrom, loadOutput, loadForOf, loadForOutput};
-ghost use Rattle.loads.specs.Filling.{InRange};
 use draws::code_from;
 use draws::next;
 use fields::fields_from;
@@ -29,7 +29,7 @@ fn put_step(
     tasks: u32,
     state: u32,
 ) -> u32
-    requires { ⌜ (InRange cards registers tasks) × (code < length (now out)) × (argument + 8 ≤ length (now out)) ⌝ }
+    requires { ⌜ (sizesInRange cards registers tasks ≡ true) × (code < length (now out)) × (argument + 8 ≤ length (now out)) ⌝ }
     ensures output { λ _. ⌜ now (out .exit) ≡ sets (set (now (out .entry)) code (stepFrom cards registers tasks state .code)) argument (stepFrom cards registers tasks state .argument) ⌝ }
     ensures state { λ r. ⌜ r ≡ afterStep state ⌝ }
 {
@@ -57,7 +57,7 @@ fn put_steps(
     n: usize,
     seed: u32,
 )
-    requires { ⌜ (InRange cards registers tasks) × (n ≤ 4096) × (codes + 9 * n ≤ length (now out)) ⌝ }
+    requires { ⌜ (sizesInRange cards registers tasks ≡ true) × (n ≤ 4096) × (codes + 9 * n ≤ length (now out)) ⌝ }
     ensures { λ _. ⌜ now (out .exit) ≡ sets (now (out .entry)) codes (map (λ s. s .code) (stepsFrom cards registers tasks n seed) ++ joined (map (λ s. s .argument) (stepsFrom cards registers tasks n seed))) ⌝ }
 {
     let mut state = seed;

@@ -11,7 +11,7 @@ use Rattle.lists.specs.Made.{make}
 use Rattle.lists.specs.Tests.{eqb-of}
 use Rattle.names.specs.Placement.{Placement, placementRefusal, registers, home, primary, copy}
 use Rattle.names.specs.Update.{updated}
-use Rattle.names.proofs.PlacementLaws.{Placed, PlacementVerdict, size-out-of-range, misplaced, accepted, placement-verdict}
+use Rattle.names.proofs.PlacementLaws.{accepted-is}
 use Rattle.totals.specs.Totals.{totalOf}
 use Rattle.totals.proofs.Adding.{as-updates}
 use Rattle.totals.proofs.TotalsMeaning.{accepted-if, total-accepted, totals-same}
@@ -23,11 +23,6 @@ use Rattle.store.proofs.Demand3.{store-demand-3}
 use Rattle.logs.specs.Log.{isSum, adds, logged, logCards, logOperands}
 use Rattle.logs.specs.LogMeaning.{OnlySums, primaryCopy, LogsMean}
 
-all-placed : (P : Placement) (n : ℕ) → PlacementVerdict P n → n ≡ 0 → Placed P
-all-placed P n (size-out-of-range h) e = absurd (omega arith)
-all-placed P n (misplaced h k) e = absurd (omega arith)
-all-placed P n (accepted h k) e = k
-
 mapped-low : (f : ℕ → ℕ) → ((k : ℕ) → f k < 8) → (l : List ℕ) (c : ℕ) → In c (map f l) → c ≤ 7
 mapped-low f low [] c h = absurd (any-nil h)
 mapped-low f low (k ∷ l) c (here e) = let h = low k in omega arith
@@ -35,7 +30,7 @@ mapped-low f low (k ∷ l) c (there h) = mapped-low f low l c h
 
 module _ (P : Placement) (ok : placementRefusal P ≡ 0) (m : Store) (steps : List RawStep) (x : ℕ) (present : x < registers P) where
   primary-copied : copy P x (primary P x) ≡ true
-  primary-copied = copy-member P ok x (primary P x) ∙ all-placed P 0 (placement-verdict P 0 .0 ok) refl .1 x present .1
+  primary-copied = copy-member P ok x (primary P x) ∙ accepted-is P ok .1 .1 x present .1
 
   even : length (logCards P steps x) ≡ length (logOperands P steps x)
   even = length-map (logged P steps x) (λ k. home P ((op P steps k) .task)) ∙ sym (length-map (logged P steps x) (λ k. (op P steps k) .arg))

@@ -161,3 +161,12 @@ placement-verdict p n = (λ e. subst (PlacementVerdict p) e (found (sized p) (pl
     told (size-out-of-range h) = rw (false-of (sized p) (λ e. h (sized-is p .0 e)))
     told (misplaced h k) = rw (sized-is p .1 h, false-of (placed p) (λ e. k (placed-is p .0 e)))
     told (accepted h k) = rw (sized-is p .1 h, placed-is p .1 k)
+
+-- an accepted placement is sized and placed
+pub accepted-is : (p : Placement) → placementRefusal p ≡ 0 → Sized p × Placed p
+accepted-is p ok = go (placement-verdict p 0 .0 ok) refl
+  where
+    go : {m : ℕ} → PlacementVerdict p m → m ≡ 0 → Sized p × Placed p
+    go (size-out-of-range h) e = absurd (omega arith)
+    go (misplaced h k) e = absurd (omega arith)
+    go (accepted h k) e = (h, k)

@@ -55,24 +55,15 @@ module _ (t : Tables) where
       let even : Bool = eqb (length (t .arguments)) (8 * n) in (
         λ e.
             let z = in-range (t .placement) n .0 (and-fst head even e) in (
-              (z .cards-least, z .cards-most),
-              (z .registers-least, z .registers-most),
-              (z .tasks-least, z .tasks-most),
-              z .steps-most,
-              z .even,
+              (z .0 .0 .0, z .0 .0 .1),
+              (z .0 .0 .2, z .0 .0 .3),
+              (z .0 .0 .4, z .0 .0 .5),
+              z .1,
+              z .0 .1,
               eqb-true (length (t .arguments)) (8 * n) (and-snd head even e),
             ),
         λ h.
-            let z = in-range (t .placement) n .1 (record {
-              cards-least = h .0 .0;
-              cards-most = h .0 .1;
-              registers-least = h .1 .0;
-              registers-most = h .1 .1;
-              tasks-least = h .2 .0;
-              tasks-most = h .2 .1;
-              steps-most = h .3;
-              even = h .4;
-            }) in
+            let z = in-range (t .placement) n .1 (((h .0 .0, h .0 .1, h .1 .0, h .1 .1, h .2 .0, h .2 .1), h .4), h .3) in
             and-intro z (eq-eqb (length (t .arguments)) (8 * n) (h .5)),
       )
 

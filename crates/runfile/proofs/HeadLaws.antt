@@ -12,7 +12,7 @@ use borrow.Author.Tests.{leb-true, le-leb, ne-eqb}
 use Rattle.lists.specs.Parts.{sets-append}
 use Rattle.lists.specs.Tests.{and-fst, and-snd, and-intro, clash}
 use Rattle.names.specs.Placement.{Placement, tasks, registers, sized, placed}
-use Rattle.names.proofs.PlacementLaws.{sized-is}
+use Rattle.names.proofs.PlacementLaws.{Sized, sized-is}
 use Rattle.runfile.specs.RunFile.{sizeBytes, placementBytes}
 use Rattle.runfile.specs.Head.{placedNumber, headBytes, wholeLength, headSized, headRefusal, headOutput, headOf}
 use Rattle.runfile.proofs.TableBytes.{placement-length, size-length}
@@ -24,35 +24,13 @@ is-zero true false true = (λ e. absurd (omega arith), λ h. absurd (clash (h .1
 is-zero true false false = (λ e. absurd (omega arith), λ h. absurd (clash (h .1) refl))
 is-zero false b c = (λ e. absurd (omega arith), λ h. absurd (clash (h .0) refl))
 
--- sizes in range, in plain terms
-pub record InRange (P : Placement) (n : ℕ) : Type 0 where
-  pub cards-least : 1 ≤ P .cards
-  pub cards-most : P .cards ≤ 8
-  pub registers-least : 1 ≤ registers P
-  pub registers-most : registers P ≤ 32
-  pub tasks-least : 1 ≤ tasks P
-  pub tasks-most : tasks P ≤ 16
-  pub steps-most : n ≤ 4096
-  pub even : length (P .primaries) ≡ registers P
-
 module _ (P : Placement) (n : ℕ) where
-  pub in-range : (headSized P n ≡ true) ↔ InRange P n
+  -- sizes in range, in plain terms
+  pub in-range : (headSized P n ≡ true) ↔ (Sized P × (n ≤ 4096))
   unfolding headSized
   in-range = (
-    λ e.
-        let z = sized-is P .0 (and-fst (sized P) (leb n 4096) e) in record {
-          cards-least = z .0 .0;
-          cards-most = z .0 .1;
-          registers-least = z .0 .2;
-          registers-most = z .0 .3;
-          tasks-least = z .0 .4;
-          tasks-most = z .0 .5;
-          steps-most = leb-true n 4096 (and-snd (sized P) (leb n 4096) e);
-          even = z .1;
-        },
-    λ h.
-        let z = sized-is P .1 ((h .cards-least, h .cards-most, h .registers-least, h .registers-most, h .tasks-least, h .tasks-most), h .even) in
-        and-intro z (le-leb n 4096 (h .steps-most)),
+    λ e. (sized-is P .0 (and-fst (sized P) (leb n 4096) e), leb-true n 4096 (and-snd (sized P) (leb n 4096) e)),
+    λ h. and-intro (sized-is P .1 (h .0)) (le-leb n 4096 (h .1)),
   )
 
   pub head-length : length (headBytes P n) ≡ 5 + tasks P + registers P + length (P .primaries)
@@ -76,7 +54,7 @@ module _ (P : Placement) (n : ℕ) where
   unfolding wholeLength
   fits m e l =
       let h = in-range .0 e in
-      (omega (arith, h .cards-most), omega (arith, h .registers-most), omega (arith, h .tasks-most), omega (arith, h .even))
+      (omega (arith, h .0 .0 .1), omega (arith, h .0 .0 .3), omega (arith, h .0 .0 .5), omega (arith, h .0 .1))
 
   module _ (out : List ℕ) where
     pub number-is : (b : Bool) (l m : ℕ) → headSized P n ≡ true → b ≡ placed P → l ≡ wholeLength P n → m ≡ placedNumber b (leb l (length out)) → headRefusal P n out ≡ m

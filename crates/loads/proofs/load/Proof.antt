@@ -1,6 +1,7 @@
 use mathlib.Core.Path.{refl, sym, ap, _∙_}
 use native.Mathlib.Omega.{arith}
-use Rattle.names.specs.Placement.{Placement, placement}
+use Rattle.names.specs.Placement.{Placement, placement, tasks, registers}
+use Rattle.names.proofs.PlacementLaws.{in-range}
 use Rattle.loads.proofs.LoadTables.{head-room, head-refused, steps-behind}
 use borrow.Author.Needs.{needs}
 use Rattle.loads.proofs.load.Statement.{statement}
@@ -19,7 +20,7 @@ add-put-steps-2 c =
     let h = c .before .before .before .before .before .head in
     let none = sym (ap (λ r. r .refusal) (h .ensures .0)) ∙ c .before .if1 .taken in
     let r = head-room (a .seed) P (a .steps) (a .out .now) none .0 in
-    omega (arith, r .registers-most, r .tasks-most, r .even)
+    omega (arith, r .0 .3, r .0 .5, r .1)
 
 add-put-steps-3 : tie.Need-add-put-steps-3
 add-put-steps-3 c =
@@ -28,7 +29,7 @@ add-put-steps-3 c =
     let h = c .before .before .before .before .before .head in
     let none = sym (ap (λ r. r .refusal) (h .ensures .0)) ∙ c .before .if1 .taken in
     let r = head-room (a .seed) P (a .steps) (a .out .now) none .0 in
-    omega (arith, r .registers-most, r .tasks-most, r .even)
+    omega (arith, r .0 .3, r .0 .5, r .1)
 
 cast-put-steps : tie.Need-cast-put-steps
 cast-put-steps c =
@@ -37,7 +38,7 @@ cast-put-steps c =
     let h = c .before .before .before .before .before .head in
     let none = sym (ap (λ r. r .refusal) (h .ensures .0)) ∙ c .before .if1 .taken in
     let r = head-room (a .seed) P (a .steps) (a .out .now) none .0 in
-    omega (arith, r .registers-most, r .tasks-most, r .even)
+    omega (arith, r .0 .3, r .0 .5, r .1)
 
 cast-put-steps-2 : tie.Need-cast-put-steps-2
 cast-put-steps-2 c =
@@ -46,7 +47,7 @@ cast-put-steps-2 c =
     let h = c .before .before .before .before .before .head in
     let none = sym (ap (λ r. r .refusal) (h .ensures .0)) ∙ c .before .if1 .taken in
     let r = head-room (a .seed) P (a .steps) (a .out .now) none .0 in
-    omega (arith, r .registers-most, r .tasks-most, r .even)
+    omega (arith, r .0 .3, r .0 .5, r .1)
 
 wide-requires : tie.Need-wide-requires
 wide-requires c κs = search needs
@@ -57,11 +58,10 @@ put-steps-requires c κs =
     let P : Placement = placement (a .cards) (a .homes .now) (a .copies .now) (a .primaries .now) in
     let h = c .before .before .before .before .before .before .head in
     let none = sym (ap (λ r. r .refusal) (h .ensures .0)) ∙ c .before .before .if1 .taken in
-    let room = head-room (a .seed) P (a .steps) (a .out .now) none in
-    let r = room .0 in (
-      ((r .cards-least, r .cards-most), (r .registers-least, r .registers-most), (r .tasks-least, r .tasks-most)),
-      omega (arith, r .steps-most, c .wide .ensures .0),
-      omega (arith, room .1, c .wide .ensures .0, h .kept .1 .1 .1 .1 .1 .0),
+    let room = head-room (a .seed) P (a .steps) (a .out .now) none in (
+      in-range (a .cards) (registers P) (tasks P) .1 (room .0 .0),
+      omega (arith, room .1, c .wide .ensures .0),
+      omega (arith, room .2, c .wide .ensures .0, h .kept .1 .1 .1 .1 .1 .0),
     )
 
 same-length : tie.Need-same-length

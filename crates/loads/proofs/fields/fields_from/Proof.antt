@@ -1,6 +1,7 @@
 use mathlib.Core.Path.{sym, _∙_}
 use native.Mathlib.Omega.{arith}
 use borrow.Author.Tests.{ne-eqb}
+use Rattle.names.proofs.PlacementLaws.{in-range}
 use Rattle.loads.specs.Filling.{argumentOf}
 use Rattle.loads.specs.Load.{fields, place, bytes, afterFields, drawn, filled}
 use borrow.Author.Needs.{needs}
@@ -14,7 +15,11 @@ names-card-requires : tie.Need-names-card-requires
 names-card-requires c κs = search needs
 
 one-of-requires : tie.Need-one-of-requires
-one-of-requires c κs = search needs
+one-of-requires c κs =
+    let s = c .before .before .before in
+    let a = s .args in
+    let f = in-range (a .cards) (a .registers) (a .tasks) .0 (s .pre) in
+    (omega (arith, f .0), omega (arith, f .1))
 
 returns : tie.Need-returns
 unfolding argumentOf fields place bytes afterFields drawn filled
@@ -27,13 +32,21 @@ returns c = (
 )
 
 one-of-requires-2 : tie.Need-one-of-requires-2
-one-of-requires-2 c κs = search needs
+one-of-requires-2 c κs =
+    let s = c .before .before .before in
+    let a = s .args in
+    let f = in-range (a .cards) (a .registers) (a .tasks) .0 (s .pre) in
+    (omega (arith, f .4), omega (arith, f .5))
 
 next-requires-2 : tie.Need-next-requires-2
 next-requires-2 c κs = search needs
 
 one-of-requires-3 : tie.Need-one-of-requires-3
-one-of-requires-3 c κs = search needs
+one-of-requires-3 c κs =
+    let s = c .before .before .before .before .before .before in
+    let a = s .args in
+    let f = in-range (a .cards) (a .registers) (a .tasks) .0 (s .pre) in
+    (omega (arith, f .2), omega (arith, f .3))
 
 returns-2 : tie.Need-returns-2
 unfolding argumentOf fields place bytes afterFields drawn filled
@@ -46,7 +59,11 @@ returns-2 c = (
 )
 
 one-of-requires-4 : tie.Need-one-of-requires-4
-one-of-requires-4 c κs = search needs
+one-of-requires-4 c κs =
+    let s = c .before .before .before .before .before .before .before in
+    let a = s .args in
+    let f = in-range (a .cards) (a .registers) (a .tasks) .0 (s .pre) in
+    (omega (arith, f .0), omega (arith, f .1))
 
 returns-3 : tie.Need-returns-3
 unfolding argumentOf fields place bytes afterFields drawn filled
@@ -59,7 +76,11 @@ returns-3 c = (
 )
 
 one-of-requires-5 : tie.Need-one-of-requires-5
-one-of-requires-5 c κs = search needs
+one-of-requires-5 c κs =
+    let s = c .before .before .before .before .before .before .before .before in
+    let a = s .args in
+    let f = in-range (a .cards) (a .registers) (a .tasks) .0 (s .pre) in
+    (omega (arith, f .2), omega (arith, f .3))
 
 next-requires-3 : tie.Need-next-requires-3
 next-requires-3 c κs = search needs

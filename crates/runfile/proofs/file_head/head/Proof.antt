@@ -50,7 +50,7 @@ cast-t16 c =
     let P : Placement = placement (a .cards) (a .homes .now) (a .copies .now) (a .primaries .now) in
     let s : headSized P (a .steps) ≡ true = sym (c .before .before .before .before .before .before .before .before .before .head-sized .ensures) ∙ not-false _ (c .before .before .before .before .before .before .before .before .if1 .left) in
     let h = in-range P (a .steps) .0 s in
-    omega (arith, c .before .before .before .before .before .before .before .whole-length .ensures, h .registers-most, h .tasks-most, h .steps-most)
+    omega (arith, c .before .before .before .before .before .before .before .whole-length .ensures, h .0 .0 .3, h .0 .0 .5, h .1)
 
 same-length : tie.Need-same-length
 same-length c = search needs

@@ -11,21 +11,21 @@ add-result c =
     let s = c .before .before .before in
     let a = s .args in
     let h = in-range (placement (a .cards) (a .homes .now) (a .copies .now) (a .primaries .now)) (a .steps) .0 (s .pre) in
-    omega (arith, h .registers-most, h .tasks-most)
+    omega (arith, h .0 .0 .3, h .0 .0 .5)
 
 mul-result : tie.Need-mul-result
 mul-result c =
     let s = c .before .before .before in
     let a = s .args in
     let h = in-range (placement (a .cards) (a .homes .now) (a .copies .now) (a .primaries .now)) (a .steps) .0 (s .pre) in
-    omega (arith, h .registers-most, h .tasks-most)
+    omega (arith, h .0 .0 .3, h .0 .0 .5)
 
 add-result-2 : tie.Need-add-result-2
 add-result-2 c =
     let s = c .before .before .before in
     let a = s .args in
     let h = in-range (placement (a .cards) (a .homes .now) (a .copies .now) (a .primaries .now)) (a .steps) .0 (s .pre) in
-    omega (arith, h .registers-most, h .tasks-most)
+    omega (arith, h .0 .0 .3, h .0 .0 .5)
 
 wide-requires : tie.Need-wide-requires
 wide-requires c κs = search needs
@@ -35,14 +35,14 @@ mul-result-2 c =
     let s = c .before .before .before .before in
     let a = s .args in
     let h = in-range (placement (a .cards) (a .homes .now) (a .copies .now) (a .primaries .now)) (a .steps) .0 (s .pre) in
-    omega (arith, h .registers-most, h .tasks-most, h .steps-most, c .wide .ensures)
+    omega (arith, h .0 .0 .3, h .0 .0 .5, h .1, c .wide .ensures)
 
 add-result-3 : tie.Need-add-result-3
 add-result-3 c =
     let s = c .before .before .before .before in
     let a = s .args in
     let h = in-range (placement (a .cards) (a .homes .now) (a .copies .now) (a .primaries .now)) (a .steps) .0 (s .pre) in
-    omega (arith, h .registers-most, h .tasks-most, h .steps-most, c .wide .ensures)
+    omega (arith, h .0 .0 .3, h .0 .0 .5, h .1, c .wide .ensures)
 
 returns : tie.Need-returns
 unfolding wholeLength
