@@ -16,10 +16,12 @@
 //! not cleared between rounds. In each round all sides must answer the same. Before that, the tuned
 //! side is compared with the model on files of every kind (`agree`); its states made by hand are
 //! tried by `cargo test`. Run files written from their tables are timed as well (`write`); and by the
-//! proved and the tuned side loads (`load`) and totals of logs (`total`).
+//! proved and the tuned side loads (`load`), totals of logs (`total`), and the copies of a register on
+//! all cards (`copies`).
 
 mod agree;
 mod clock;
+mod copies;
 mod load;
 mod total;
 mod write;
@@ -127,6 +129,8 @@ fn main() {
     println!("tuned and proved agree on totals: {compared} logs");
     let compared = load::tuned_with_proved();
     println!("and on loads: {compared} calls");
+    let compared = copies::tuned_with_proved();
+    println!("and on copies: {compared} registers");
     println!("nanoseconds a step: proved, plain, tuned");
     println!("file  taken |      whole run       |    checked steps     |   unchecked steps");
     let mut ratios = [const { [const { Vec::new() }; 2] }; 3];
@@ -170,6 +174,7 @@ fn main() {
     println!("a file of {STEPS} steps written: proved {proved:.0} ns, plain {plain:.0}, tuned {tuned:.0}");
     load::print();
     total::print();
+    copies::print();
     let (proved, tuned) = (size_of::<gondzselu::Store>(), size_of::<tuned::Store>());
     println!("a store: proved {proved} bytes, tuned {tuned} bytes");
 }

@@ -7,12 +7,12 @@
  * Memory    A store is two memories that the caller lends, changed in place, aligned as uint32_t:
  *           7,508 bytes. Each has its type, so that swapped ones do not compile (older C compilers
  *           only warn: use -Werror). Any words are safe to lend (RULES 11.2). What lies where is in
- *           RULES 11.12; a store kept by a library of before 0.8.0 is no store here. The library
+ *           RULES 11.12; a store kept by a library of before 0.11.0 is no store here. The library
  *           keeps nothing elsewhere, and needs memcpy and memset and no other function.
  * Pointers  None is NULL, also where a length is 0. What a call writes overlaps nothing else that
  *           it is given (RULES 11.2).
- * Threads   One caller at a time for a store; an interrupt is a caller too. Calls that only read,
- *           those with const memories, may run side by side. Stores are independent (RULES 11.3).
+ * Threads   One caller at a time for a store; an interrupt is a caller too. Calls that only read
+ *           it, with const memories, may run side by side. Stores are independent (RULES 11.3).
  * Copying   Copy both memories whole, between calls; a gondzselu_store by `*b = *a`. Memories of
  *           different moments are a state made by hand (RULES 11.5).
  * Bytes     Memories are words in the machine's own order. Files and arguments are bytes in the
@@ -33,7 +33,7 @@ extern "C" {
 /* ---- version */
 
 #define GONDZSELU_VERSION_MAJOR 0
-#define GONDZSELU_VERSION_MINOR 10
+#define GONDZSELU_VERSION_MINOR 11
 #define GONDZSELU_VERSION_PATCH 0
 #define GONDZSELU_VERSION \
     (GONDZSELU_VERSION_MAJOR * 1000000 + GONDZSELU_VERSION_MINOR * 1000 + GONDZSELU_VERSION_PATCH)
@@ -338,13 +338,19 @@ uint8_t gondzselu_total_by_card(const uint8_t *cards, size_t cards_length,
                                 const uint32_t *operands, size_t operands_length,
                                 uint32_t *total);
 
-/* ---- what a panel reads: these write nothing, check nothing and refuse nothing (RULES 11.7). What
- * is read with no step between is one moment. */
+/* ---- what a panel reads: these check nothing and refuse nothing, and write nothing but the words
+ * that gondzselu_copies is lent (RULES 11.7). What is read with no step between is one moment. */
 
 /* The value of a card's copy of a register; 0 for an absent card or register, and, in a store that
  * only this library wrote, for a card without a copy. */
 uint32_t gondzselu_copy(const gondzselu_registers *registers, const gondzselu_channel *channel,
                         uint32_t card, uint32_t register_number);
+
+/* The copies of a register on all cards at once, by card; they lie side by side (RULES 11.8). The
+ * value of the card's copy; 0 for an absent card, for a card without a copy, in every store, and
+ * for every card if the register is absent. Writes all eight words in every case. */
+void gondzselu_copies(const gondzselu_registers *registers, const gondzselu_channel *channel,
+                      uint32_t register_number, uint32_t copies[GONDZSELU_CARDS_MAX]);
 
 /* What a task is doing, as enum gondzselu_condition; an absent task is quiet. */
 uint32_t gondzselu_task(const gondzselu_registers *registers, const gondzselu_channel *channel,

@@ -22,6 +22,7 @@
 #![forbid(unsafe_code)]
 
 mod channel;
+mod copies;
 mod deliver;
 mod load;
 mod run;
@@ -33,6 +34,7 @@ mod total;
 mod word;
 mod write;
 
+pub use copies::Rows;
 pub use load::{load, Wanted};
 pub use run::answer;
 pub use total::{total, total_by_card};

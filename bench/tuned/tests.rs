@@ -3,6 +3,7 @@
 //! in places and fields that are not used, and judges them.
 
 mod check;
+mod copies;
 mod steps;
 
 use gondzselu_model::memory::{self, Words, CHANNEL_WORDS, REGISTERS_WORDS};

@@ -13,7 +13,7 @@ static uint8_t out[GONDZSELU_FILE_MAX], stack[2 * GONDZSELU_STACK_ANSWER];
 static gondzselu_registers r;
 static gondzselu_channel c;
 static gondzselu_tally tally;
-static uint32_t v, bad;
+static uint32_t v, bad, by_card[GONDZSELU_CARDS_MAX];
 
 /* For each code the bits of its argument: tasks below 16, registers below 32, cards below 8. */
 static const uint8_t bits[11][8] = {{0}, {15, 31}, {15, 31, 3, 0, 255, 255, 255, 255}, {15},
@@ -48,6 +48,7 @@ static void totals(void) {
     bad += gondzselu_total(f + 53, 32, c.words, 32, &v);
     bad += gondzselu_total_by_card(f + 53, 32, c.words, 32, &v);
 }
+static void copies(void) { gondzselu_copies(&r, &c, 1, by_card); }
 static void panel(void) { v = gondzselu_copy(&r, &c, 1, 1) + gondzselu_task_value(&r, &c, 1); }
 
 static int above(const char *name, void (*call)(void), size_t limit) {
@@ -69,9 +70,9 @@ int main(void) {
     fill();
     int over = above("answer", answer, GONDZSELU_STACK_ANSWER);
     void (*const calls[])(void) = {start,      start_file, step,   advance, sentence,
-                                   write_file, load,       totals, panel};
+                                   write_file, load,       totals, copies,  panel};
     static const char *const names[] = {"start", "start_file", "step",   "advance", "sentence",
-                                        "write", "load",       "totals", "panel"};
-    for (int k = 0; k < 9; k++) over += above(names[k], calls[k], GONDZSELU_STACK_CALL);
+                                        "write", "load",       "totals", "copies",  "panel"};
+    for (int k = 0; k < 10; k++) over += above(names[k], calls[k], GONDZSELU_STACK_CALL);
     return over > 0 || bad > 0 || tally.taken < 500; /* a refused file would measure nothing */
 }

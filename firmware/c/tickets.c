@@ -40,6 +40,7 @@ static void settle(uint32_t first) {
 
 int main(void) {
     int handed[NUMBERS] = {0};
+    uint32_t counts[GONDZSELU_CARDS_MAX]; /* the register's copies, by card */
     if (gondzselu_version() != GONDZSELU_VERSION) return fail("library and header differ");
     if (gondzselu_start(&s.registers, &s.channel, CARDS, homes, TASKS, copies, 1, primaries, 1))
         return fail("the placement is refused");
@@ -62,7 +63,11 @@ int main(void) {
             printf(" task %u has number %u%s", task, value, task + 1 < TASKS ? "," : "\n");
         }
     }
-    for (uint32_t card = 0; card < 2; card++)
-        printf("card %u counts %u\n", card, gondzselu_copy(&s.registers, &s.channel, card, 0));
+    gondzselu_copies(&s.registers, &s.channel, 0, counts);
+    for (uint32_t card = 0; card < CARDS; card++) {
+        const int holds = copies[0] >> card & 1; /* no call says it: the table does */
+        if (holds) printf("card %u counts %u\n", card, counts[card]);
+        if (counts[card] != (holds ? NUMBERS : 0)) return fail("a card counts otherwise");
+    }
     return ferror(stdout) || fclose(stdout) ? fail("cannot write the output") : 0;
 }

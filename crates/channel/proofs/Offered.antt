@@ -106,3 +106,8 @@ module _ (ws : List ℕ) (cards tasks registers : ℕ) (ok : sizesFit cards task
   pub begun-length : length (beginMemory ws cards tasks registers) ≡ channelWords
   unfolding memoryAfter
   begun-length = channel-follows ws cards tasks registers ok [] .long
+
+-- whatever was there before
+pub begun-same : (ws us : List ℕ) (cards tasks registers : ℕ) → sizesFit cards tasks registers ≡ true → beginMemory ws cards tasks registers ≡ beginMemory us cards tasks registers
+unfolding beginMemory
+begun-same ws us cards tasks registers ok = rw ok

@@ -5,8 +5,9 @@ ghost use Rattle.names.specs.Placement.{placement, placementRefusal};
 ghost use Rattle.channel.specs.Layout.{madeOf, takenBy};
 ghost use Rattle.tables.specs.Layout.{requestsOf};
 ghost use Rattle.tables.specs.Start.{startRegisters, startChannel};
-ghost use Rattle.store.specs.Step.{stepped, advanced};
-ghost use Rattle.tables.specs.Panel.{valueShown, doingShown};
+ghost use Rattle.store.specs.SideBySide.{stepped, advanced};
+ghost use Rattle.tables.specs.Panel.{doingShown};
+ghost use Rattle.tables.specs.SideBySide.{valueShown, copiesShown};
 ghost use Rattle.tables.specs.Doings.{doingKind, doingValue};
 ghost use Rattle.runfile.specs.RunFile.{fileRefusal};
 ghost use Rattle.runfile.specs.Run.{fileRegisters, fileChannel, answerRefusal, answerOutput};
@@ -42,9 +43,9 @@ pub extern "C" fn gondzselu_channel_words() -> usize
 // The version of what is offered: major * 1,000,000 + minor * 1,000 + patch.
 #[no_mangle]
 pub extern "C" fn gondzselu_version() -> u32
-    ensures { λ r. ⌜ r ≡ 10000 ⌝ }
+    ensures { λ r. ⌜ r ≡ 11000 ⌝ }
 {
-    10000
+    11000
 }
 
 // ---- a whole run
@@ -300,6 +301,19 @@ pub extern "C" fn gondzselu_copy(
     ensures { λ r. ⌜ r ≡ valueShown (now (registers .entry)) (now (channel .entry)) (record { 0 = card }) (record { 0 = register }) ⌝ }
 {
     store::value(registers, channel, Card(card), Register(register))
+}
+
+// The copies of a register on all eight cards at once, into a lent array: by card; 0 for an absent card or register and for a card without a copy.
+#[no_mangle]
+pub extern "C" fn gondzselu_copies(
+    registers: &[u32; 593],
+    channel: &[u32; channel::WORDS],
+    register: u32,
+    copies: &mut [u32; 8],
+)
+    ensures { λ _. ⌜ now (copies .exit) ≡ copiesShown (now (registers .entry)) (now (channel .entry)) (record { 0 = register }) ⌝ }
+{
+    store::copies(registers, channel, Register(register), copies);
 }
 
 // What a task is doing: 0 quiet, 1 asking for a read, 2 asking for an update, 3 waiting, 4 done with a read, 5 done with an update. An absent

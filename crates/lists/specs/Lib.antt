@@ -6,6 +6,7 @@ pub mod Loops
 pub mod Made
 pub mod Rearranging
 pub mod Parts
+pub mod Filling
 pub mod Listings
 pub mod Places
 pub mod Histories

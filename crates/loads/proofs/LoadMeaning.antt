@@ -11,9 +11,8 @@ use Rattle.names.proofs.PlacementLaws.{Sized, Placed, accepted-is}
 use Rattle.claims.specs.Steps.{RawStep, good, decode}
 use Rattle.claims.specs.Found.{Found, begin}
 use Rattle.claims.specs.FoundRun.{answersFrom}
-use Rattle.store.specs.Demand2.{Stands}
-use Rattle.store.specs.StepResults.{resultOf}
-use Rattle.store.proofs.Demand2.{demand-2}
+use Rattle.store.specs.SideBySide.{Stands, resultOf}
+use Rattle.store.proofs.SideBySide.{demand-2}
 use Rattle.runfile.specs.RunFile.{RunFile, runFileIn, fileRefusal, fileBytes, sizeBytes, placementBytes}
 use Rattle.runfile.specs.Run.{answersIn}
 use Rattle.runfile.specs.ComposeMeaning.{SizedTables, ReadBack}

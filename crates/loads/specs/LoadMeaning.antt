@@ -12,8 +12,7 @@ use Rattle.names.specs.declared.Answer.{Answer}
 use Rattle.claims.specs.Command.{Command, request-read, request-update, perform, send-read, send-update, dispatch, takeBroadcast, takeSingle, deliver, report}
 use Rattle.claims.specs.Steps.{RawStep, good, decode}
 use Rattle.claims.specs.Found.{Found}
-use Rattle.store.specs.Demand2.{Stands}
-use Rattle.store.specs.StepResults.{resultOf}
+use Rattle.store.specs.SideBySide.{Stands, resultOf}
 use Rattle.runfile.specs.RunFile.{runFileIn, fileRefusal, joined}
 use Rattle.runfile.specs.Run.{answersIn}
 use Rattle.runfile.specs.Head.{headOf}

@@ -17,11 +17,9 @@ use Rattle.claims.proofs.FoundShown.{shown}
 use Rattle.claims.proofs.Shown.{numbers}
 use Rattle.claims.proofs.Taken.{executes, paper-snoc}
 use Rattle.claims.proofs.Together.{together}
-use Rattle.store.specs.Demand2.{Stands}
-use Rattle.store.specs.Run.{Store, started, storeAfter, advance, advanceAll}
-use Rattle.store.proofs.CheckedOnce.{checked-once}
-use Rattle.store.proofs.Demand3.{after-shows}
-use Rattle.store.proofs.StartLaw.{start-stands}
+use Rattle.store.specs.SideBySide.{Stands, storeAfter, advance, advanceAll}
+use Rattle.store.specs.Run.{Store, started}
+use Rattle.store.proofs.SideBySide.{checked-once, after-shows, start-stands}
 use Rattle.runfile.specs.RunFile.{stepsIn, stepIn, placementIn, fileRefusal}
 use Rattle.runfile.specs.Stepwise.{storeAt}
 use Rattle.runfile.proofs.RunFileLaws.{accepted-placement}

@@ -19,7 +19,7 @@ use Rattle.claims.specs.Steps.{RawStep}
 use Rattle.claims.specs.SerialOrder.{op, appliedOn, updates}
 use Rattle.claims.proofs.CardSets.{home-low, copy-member}
 use Rattle.store.specs.Run.{Store}
-use Rattle.store.proofs.Demand3.{store-demand-3}
+use Rattle.store.proofs.SideBySide.{store-demand-3}
 use Rattle.logs.specs.Log.{isSum, adds, logged, logCards, logOperands}
 use Rattle.logs.specs.LogMeaning.{OnlySums, primaryCopy, LogsMean}
 

@@ -39,10 +39,8 @@ use Rattle.tables.specs.Doings.{doingAt}
 use Rattle.tables.specs.Shows.{statusOf, plain}
 use Rattle.tables.specs.declared.Doing.{Doing}
 use Rattle.tables.specs.declared.Doing.the-variants.{Quiet, AskingRead, AskingUpdate, Waiting, DoneRead, DoneUpdate}
-use Rattle.store.specs.Demand2.{Stands}
-use Rattle.store.specs.Step.{advanced}
-use Rattle.store.proofs.Standing.{Ready, ready}
-use Rattle.store.proofs.StepLaw.{advance-follows}
+use Rattle.store.specs.SideBySide.{Stands, advanced}
+use Rattle.store.proofs.SideBySide.{channel-fit, advance-follows}
 use Rattle.logs.specs.declared.Entry.{Entry}
 use Rattle.logs.specs.declared.Entry.the-variants.{Nothing}
 use Rattle.logs.specs.Entries.{entries, updateEntry, doingEntry, bodyEntry, receivedEntry, commandEntry, stepEntry}
@@ -137,16 +135,13 @@ module _ (P : Placement) (ok : placementRefusal P ≡ 0) (x : ℕ) (ds : List (A
   own t k e = sym (asked-op P ok (b .ops) (b .chosen) b (trace P ds) (record { ops= = λ j l. refl; chosen= = λ j i q. q }) (final P ok ds f) e .1)
 
   module _ (rs cs : List ℕ) (z : Stands rs cs P s) (a : RawStep) where
-    y : Ready rs cs P s
-    y = ready rs cs P s z
-
     -- the step is taken, by its result
     abbrev isDone : Bool
     isDone = isTaken (advanced rs cs (a .code) (a .argument) .answer .result)
 
     done-is : (c : Command) → decode P a ≡ good c → isDone ≡ eqb (ledgerRefusal P b c) 0
     done-is c e =
-        ap (λ r. isTaken (r .result)) (advance-follows rs cs P s y a .answer= ∙ ap (answerDecoded P s) e)
+        ap (λ r. isTaken (r .result)) (advance-follows rs cs P s z a .answer= ∙ ap (answerDecoded P s) e)
         ∙ ap isTaken (same-result P ok ds f c)
         ∙ ledger-taken P b c
 
@@ -182,7 +177,7 @@ module _ (P : Placement) (ok : placementRefusal P ≡ 0) (x : ℕ) (ds : List (A
         about-planned P x b _ (b .layer .status (t .0)) (Action.perform (t .0)) g p (λ k n.
         sym
         (doing-found P x (t .0) (doingAt rs (t .0))
-        ∙ ap (foundEntry P x (t .0)) (sym (y .show .status= (t .0) r))
+        ∙ ap (foundEntry P x (t .0)) (sym (z .shows .registers-show .status= (t .0) r))
         ∙ ap (λ u. foundEntry P x (t .0) (showStatus (b .ops) u)) (n .0)
         ∙ performs P x b (t .0) k (own (t .0) k (n .0)))))
     by-step (SendRead t j) r e = by-command (K.send-read (t .0) (j .0)) Nothing e (λ g p. about-planned P x b Nothing (b .layer .status (t .0)) _ g p (λ k n. refl))
@@ -192,9 +187,9 @@ module _ (P : Placement) (ok : placementRefusal P ≡ 0) (x : ℕ) (ds : List (A
     by-step (TakeSingle t) r e = by-command (K.takeSingle (t .0)) Nothing e (λ g p. is-planned P x b Nothing _ g p (λ n. refl))
     by-step (Deliver i) r e = by-command (K.deliver (i .0)) (receivedEntry P x (i .0) (receiveAnswer cs i)) e (λ g p.
         head-planned P x b _ (b .channel .inbox (i .0)) (λ m. Action.deliver m (i .0)) g p (λ m n.
-        let w = y .channel-shows in
+        let w = z .shows .channel-shows in
         sym
-        (ap (receivedEntry P x (i .0)) (hands cs (w .letters) (y .channel-long) (y .channel-fit) (w .shows) i r)
+        (ap (receivedEntry P x (i .0)) (hands cs (w .letters) (z .channel-long) (channel-fit rs cs P s z) (w .shows) i r)
         ∙ received-inbox P x (i .0) (w .letters .inbox (i .0))
         ∙ ap (λ c. inboxEntry P x (i .0) (c .inbox (i .0))) (sym (w .plain=))
         ∙ ap (λ l. inboxEntry P x (i .0) (map (showMsg P (b .ops) (b .chosen)) l)) (n .1)
@@ -210,4 +205,4 @@ module _ (P : Placement) (ok : placementRefusal P ≡ 0) (x : ℕ) (ds : List (A
         d = decodeOf (a .code) (a .argument) (cardsOf cs) (registersOf cs) (tasksOf cs)
 
         same : commandShown d ≡ decode P a
-        same = rw (← y .cards=, ← y .registers=, ← y .tasks=) (decode-is P (a .argument) (a .code))
+        same = rw (← z .shows .cards=, ← z .shows .registers=, ← z .shows .tasks=) (decode-is P (a .argument) (a .code))

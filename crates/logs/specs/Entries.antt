@@ -21,7 +21,7 @@ use Rattle.tables.specs.Doings.{doingAt}
 use Rattle.tables.specs.declared.Doing.{Doing}
 use Rattle.tables.specs.declared.Doing.the-variants.{Quiet, AskingRead, AskingUpdate, Waiting, DoneRead, DoneUpdate}
 use Rattle.store.specs.Run.{Store}
-use Rattle.store.specs.Step.{advanced}
+use Rattle.store.specs.SideBySide.{advanced}
 use Rattle.runfile.specs.Stepwise.{storeAt}
 use Rattle.logs.specs.Log.{isSum}
 use Rattle.logs.specs.declared.Entry.{Entry}

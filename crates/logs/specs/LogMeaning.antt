@@ -9,7 +9,8 @@ use Rattle.totals.specs.Totals.{logRefusal, totalOf, totalByCard}
 use Rattle.totals.specs.TotalsMeaning.{result}
 use Rattle.claims.specs.Steps.{RawStep}
 use Rattle.claims.specs.SerialOrder.{op, appliedOn, updates}
-use Rattle.store.specs.Run.{Store, started, storeAfter, tableOf}
+use Rattle.store.specs.Run.{Store, started}
+use Rattle.store.specs.SideBySide.{storeAfter, tableOf}
 use Rattle.logs.specs.Log.{logCards, logOperands}
 
 module _ (P : Placement) (m : Store) (steps : List RawStep) (x : ℕ) where

@@ -2,7 +2,7 @@
 ghost use mathlib.Core.Path.{_≡_};
 ghost use Rattle.logs.specs.Entries.{updateEntry, doingEntry, bodyEntry, receivedEntry, commandEntry, stepEntry};
 ghost use Rattle.runfile.specs.RunFile.{placementIn, codeIn, argumentIn};
-ghost use Rattle.store.specs.Step.{advanced};
+ghost use Rattle.store.specs.SideBySide.{advanced};
 use crate::Entry;
 use channel::Received;
 use commands::Command;

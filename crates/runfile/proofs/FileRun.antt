@@ -13,10 +13,9 @@ use Rattle.names.specs.declared.Answer.{Answer}
 use Rattle.claims.specs.Found.{begin}
 use Rattle.claims.specs.SerialOrder.{SerialOrder}
 use Rattle.claims.proofs.FewRequests.{never-23}
-use Rattle.store.specs.Demand2.{Stands}
-use Rattle.store.specs.Run.{Store, started, storeAfter, answersOf, tableOf}
-use Rattle.store.proofs.StartLaw.{start-stands}
-use Rattle.store.proofs.Demand3.{answers-same, store-demand-3}
+use Rattle.store.specs.SideBySide.{Stands, storeAfter, answersOf, tableOf}
+use Rattle.store.specs.Run.{Store, started}
+use Rattle.store.proofs.SideBySide.{start-stands, answers-same, store-demand-3}
 use Rattle.runfile.specs.RunFile.{stepsIn, placementIn, runFileIn, fileRefusal, joined}
 use Rattle.runfile.specs.AnswerFile.{fourBytes, answerBytes, answered}
 use Rattle.runfile.specs.Run.{fileRegisters, fileChannel, answersIn, answerOf, answerRefusal, answerOutput, takenOf, refusedOf}

@@ -8,9 +8,7 @@ use Rattle.lists.specs.Listings.{listing}
 use Rattle.names.specs.declared.Answer.{Answer}
 use Rattle.claims.specs.Found.{begin}
 use Rattle.store.specs.Run.{Store, started}
-use Rattle.store.proofs.StartLaw.{start-stands}
-use Rattle.store.proofs.Demand3.{answers-same}
-use Rattle.store.proofs.CheckedOnce.{checked-once}
+use Rattle.store.proofs.SideBySide.{start-stands, answers-same, checked-once}
 use Rattle.runfile.specs.RunFile.{stepsIn, placementIn, stepIn, runFileIn, fileRefusal}
 use Rattle.runfile.specs.AnswerFile.{answered, headed, putAnswers}
 use Rattle.runfile.specs.Run.{answersIn, takenOf, refusedOf, answerRefusal, answerOutput, answeredOf}

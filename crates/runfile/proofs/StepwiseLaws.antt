@@ -10,8 +10,8 @@ use Rattle.lists.specs.Counts.{filter-listing}
 use Rattle.lists.specs.Counting.{filter-split}
 use Rattle.names.specs.Step.{RawStep}
 use Rattle.names.specs.declared.Answer.{Answer}
-use Rattle.store.specs.Step.{advanced}
-use Rattle.store.specs.Run.{Store, advance, answersAdvancing}
+use Rattle.store.specs.SideBySide.{advanced, advance, answersAdvancing}
+use Rattle.store.specs.Run.{Store}
 use Rattle.names.specs.Results.{isTaken}
 use Rattle.runfile.specs.Run.{isRefused, takenOf, refusedOf}
 use Rattle.runfile.specs.Stepwise.{storeAt, answerAt}

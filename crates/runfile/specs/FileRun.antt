@@ -8,8 +8,8 @@ use Rattle.lists.specs.Histories.{In}
 use Rattle.names.specs.declared.Answer.{Answer}
 use Rattle.claims.specs.Found.{begin}
 use Rattle.claims.specs.SerialOrder.{SerialOrder}
-use Rattle.store.specs.Demand2.{Stands}
-use Rattle.store.specs.Run.{Store, started, storeAfter, answersOf, tableOf}
+use Rattle.store.specs.SideBySide.{Stands, storeAfter, answersOf, tableOf}
+use Rattle.store.specs.Run.{Store, started}
 use Rattle.runfile.specs.RunFile.{stepsIn, placementIn, runFileIn, fileRefusal}
 use Rattle.runfile.specs.Run.{fileRegisters, fileChannel, answersIn, answerOf, answerRefusal, answerOutput, takenOf, refusedOf}
 

@@ -5,8 +5,8 @@ use mathlib.Core.List.{List}
 use Rattle.lists.specs.Loops.{turns, total}
 use Rattle.names.specs.Step.{RawStep}
 use Rattle.names.specs.declared.Answer.{Answer}
-use Rattle.store.specs.Step.{advanced}
-use Rattle.store.specs.Run.{Store, advance}
+use Rattle.store.specs.SideBySide.{advanced, advance}
+use Rattle.store.specs.Run.{Store}
 use Rattle.runfile.specs.declared.Answered.{Answered}
 use Rattle.names.specs.Results.{isTaken}
 use Rattle.runfile.specs.Run.{isRefused}

@@ -9,7 +9,7 @@ ghost use Rattle.runfile.specs.AnswerFile.{headed, putAnswer, putAnswers
 ghost use Rattle.runfile.specs.Stepwise.{stored, answerAt, counted};
 ghost use Rattle.runfile.specs.Run.{fileRegisters, fileChannel, answerOf, answerOutput, answeredOf};
 ghost use Rattle.tables.specs.Start.{startRegisters, startChannel};
-ghost use Rattle.store.specs.Step.{advanced};
+ghost use Rattle.store.specs.SideBySide.{advanced};
 use super::answer_file::put_answer;
 use super::answer_file::put_count;
 use super::arguments_at;

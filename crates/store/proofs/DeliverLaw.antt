@@ -36,7 +36,7 @@ use Rattle.tables.specs.Layout.{homeOf, copyOf, onlyCard}
 use Rattle.tables.specs.Doings.{doingStored}
 use Rattle.tables.specs.Outbox.{outCountOf, roomy}
 use Rattle.store.specs.Perform.{copyUpdated}
-use Rattle.store.specs.Deliver.{replied, repliesHere, applied, bodyNumber, bodyWords, foundNumber, foundWords, deliverNumber, deliverRegisters, deliverChannel}
+use Rattle.store.specs.Deliver.{replied, repliesHere, appliedAt, applied, bodyNumber, bodyWords, foundNumber, foundWords, deliverNumber, deliverRegisters, deliverChannel}
 use Rattle.tables.specs.Sized.{doingFits}
 use Rattle.store.specs.Step.{outcome}
 use Rattle.tables.specs.Shows.{statusOf, plain, ChannelShows}
@@ -99,7 +99,7 @@ module _ (rs cs : List ℕ) (P : Placement) (s : Found) (z : Ready rs cs P s) (i
           out = s .out;
           channel = s .channel;
         })
-    unfolding applied statusOf doingFits
+    unfolding appliedAt statusOf doingFits
     applied-ready f w = rw (home-is, found-is) (go (eqb i (homeOf rs (m .task))))
       where
         go : (b : Bool) → Ready (cond b (doingStored (copyUpdated rs i (m .reg) f w) (m .task) (DoneUpdate v)) (copyUpdated rs i (m .reg) f w)) cs P

@@ -25,3 +25,10 @@ pub mod IllStates
 -- Limits met exactly
 pub mod LimitRuns
 pub mod LimitSteps
+-- Stores alike but for where the copies lie
+pub mod MatchSteps
+pub mod MatchStore
+-- The demands with the copies side by side
+pub mod SideBySide
+pub mod ResultsSideBySide
+pub mod LimitsSideBySide

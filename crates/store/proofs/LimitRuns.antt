@@ -18,7 +18,7 @@ use Rattle.store.specs.LimitRuns.{crowd, outbox-run, held-run, inbox-run
 use Rattle.store.proofs.StartLaw.{start-stands}
 use Rattle.store.proofs.Demand3.{after-shows, answers-same}
 
-crowd-accepted : placementRefusal crowd ≡ 0
+pub crowd-accepted : placementRefusal crowd ≡ 0
 unfolding placementRefusal sized sizesInRange placed homesPlaced homePlaced registersPlaced registerPlaced each memberOf eqb leb
 crowd-accepted = refl
 

@@ -24,7 +24,7 @@ use Rattle.tables.specs.declared.Doing.{Doing}
 use Rattle.tables.specs.declared.Doing.the-variants.{Quiet, AskingRead, AskingUpdate, Waiting, DoneRead, DoneUpdate}
 use Rattle.tables.specs.Layout.{copyWord, homeOf, holds, copyOf}
 use Rattle.tables.specs.Doings.{doingAt, doingStored}
-use Rattle.store.specs.Perform.{alone, performReadNumber, performReadWords, performUpdateNumber, copyUpdated, performUpdateWords, performNumberOf, performWordsOf, performNumber, performWords}
+use Rattle.store.specs.Perform.{alone, performReadNumber, performReadWords, performUpdateNumber, copyUpdatedAt, copyUpdated, performUpdateWords, performNumberOf, performWordsOf, performNumber, performWords}
 use Rattle.tables.specs.Sized.{doingFits}
 use Rattle.store.specs.Step.{outcome}
 use Rattle.tables.specs.Shows.{statusOf}
@@ -52,7 +52,7 @@ module _ (rs cs : List ℕ) (P : Placement) (s : Found) (z : Ready rs cs P s) wh
   -- card i's copy of register x after an update
   pub updated-ready : (i x f w : ℕ) → i < cardsOf cs → x < registersOf cs
       → Ready (copyUpdated rs i x f w) cs P (record { requests = s .requests; status = s .status; table = setCopy i x (updated f w (s .table i x)) (s .table); out = s .out; channel = s .channel })
-  unfolding copyUpdated
+  unfolding copyUpdatedAt
   updated-ready i x f w h g =
       rw (z .show .table= i x h g)
       (registers-ready rs cs P s z (set rs (copyWord i x) (updated f w (copyOf rs i x))) _ (length-set rs (copyWord i x) (updated f w (copyOf rs i x)) ∙ z .long)

@@ -15,11 +15,11 @@ use Rattle.channel.specs.TakeSingle.{noFlight}
 use Rattle.channel.specs.IllSized.{PastBlock}
 use Rattle.claims.specs.Steps.{RawStep}
 use Rattle.tables.specs.declared.Doing.the-variants.{AskingRead, AskingUpdate}
-use Rattle.tables.specs.Layout.{requestsOf, homeOf, holdersOf, primaryOf}
+use Rattle.tables.specs.Layout.{Place, cardAfterCard, requestsOf, homeOf, holdersOf, primaryOf}
 use Rattle.tables.specs.Doings.{doingAt}
 use Rattle.tables.specs.Outbox.{outHeadOf, outCountOf, outPlace}
 use Rattle.tables.specs.Sized.{doingKindAt, storeSized}
-use Rattle.store.specs.Step.{outcome, stepped}
+use Rattle.store.specs.Step.{outcome, steppedAt}
 
 pub data IllSized (rs cs : List ℕ) : Type 0 where
   -- a: sizes
@@ -69,7 +69,11 @@ pub data IllSized (rs cs : List ℕ) : Type 0 where
   -- k: a broadcast with at most one destination, which is none (RULES 6.1)
   broadcast-destination : (k : ℕ) → k < madeOf cs → k < mostBehind → several (letterAt cs (broadcastBlock (madeOf cs - k)) .to) ≡ false → IllSized rs cs
 
-pub record IllStates (rs cs : List ℕ) : Type 0 where
+pub record IllStatesAt (place : Place) (rs cs : List ℕ) : Type 0 where
   pub exact : (storeSized rs cs ≡ false) ↔ IllSized rs cs
   -- every step is then refused with 6, and leaves both memories as they were
-  pub six : IllSized rs cs → (a : RawStep) → stepped rs cs (a .code) (a .argument) ≡ outcome 6 rs cs
+  pub six : IllSized rs cs → (a : RawStep) → steppedAt place rs cs (a .code) (a .argument) ≡ outcome 6 rs cs
+
+-- card after card, on paper
+abbrev pub IllStates : List ℕ → List ℕ → Type 0
+IllStates rs cs = IllStatesAt cardAfterCard rs cs

@@ -16,3 +16,7 @@ pub mod IllStates
 -- Limits met exactly
 pub mod LimitRuns
 pub mod LimitSteps
+-- The steps and the demands with the copies side by side, as they lie in the memory
+pub mod SideBySide
+-- Stores alike but for where the copies lie
+pub mod Match

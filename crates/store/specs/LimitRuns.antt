@@ -9,8 +9,9 @@ use Rattle.claims.specs.Steps.{RawStep}
 use Rattle.claims.specs.NamedRuns.{step, set}
 use Rattle.claims.specs.Found.{begin}
 use Rattle.claims.specs.FoundRun.{finalFrom}
-use Rattle.store.specs.Demand2.{Stands}
-use Rattle.store.specs.Run.{Store, started, storeAfter, answersOf}
+use Rattle.tables.specs.Layout.{Place, cardAfterCard}
+use Rattle.store.specs.Demand2.{StandsAt}
+use Rattle.store.specs.Run.{Store, started, storeAfterAt, answersOfAt}
 
 -- two cards; 16 tasks on card 0; register 0 on both cards, register 1 on card 1
 abbrev pub crowd : Placement
@@ -69,20 +70,28 @@ k11 = broadcasts 24 ++ shares 24
 abbrev pub k12 : List RawStep
 k12 = taken-broadcasts 33
 
--- the results of a run of the store, in memories of any content
-abbrev pub resultsOf : Store → List RawStep → List ℕ
-resultsOf m l = map (λ a. a .result) (answersOf (started crowd m) l)
-
 -- all taken but the last
 abbrev pub thenRefused : ℕ → ℕ → List ℕ
 thenRefused n r = replicate n 0 ++ (r ∷ [])
 
-pub record LimitsMet : Type 0 where
+-- the results of a run of the store, in memories of any content
+abbrev pub resultsOfAt : Place → Store → List RawStep → List ℕ
+resultsOfAt place m l = map (λ a. a .result) (answersOfAt place (started crowd m) l)
+
+pub record LimitsMetAt (place : Place) : Type 0 where
   -- what the store shows after a run is the state of its algorithm
   pub shows : (m : Store) (l : List RawStep)
-      → Stands (storeAfter (started crowd m) l .registers) (storeAfter (started crowd m) l .channel) crowd (finalFrom crowd begin l)
+      → StandsAt place (storeAfterAt place (started crowd m) l .registers) (storeAfterAt place (started crowd m) l .channel) crowd (finalFrom crowd begin l)
   pub outbox : length (finalFrom crowd begin outbox-run .out 0) ≡ 16
   pub held : length (finalFrom crowd begin held-run .channel .held 1) ≡ 16
   pub inbox : length (finalFrom crowd begin inbox-run .channel .inbox 1) ≡ 48
-  pub behind : (m : Store) → resultsOf m k11 ≡ thenRefused 146 34
-  pub crowded : (m : Store) → resultsOf m k12 ≡ thenRefused 230 35
+  pub behind : (m : Store) → resultsOfAt place m k11 ≡ thenRefused 146 34
+  pub crowded : (m : Store) → resultsOfAt place m k12 ≡ thenRefused 230 35
+
+-- ---- card after card, on paper
+
+abbrev pub resultsOf : Store → List RawStep → List ℕ
+resultsOf = resultsOfAt cardAfterCard
+
+abbrev pub LimitsMet : Type 0
+LimitsMet = LimitsMetAt cardAfterCard

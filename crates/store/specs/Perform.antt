@@ -7,7 +7,7 @@ use Rattle.names.specs.CardSet.{several}
 use Rattle.names.specs.Update.{updated}
 use Rattle.tables.specs.declared.Doing.{Doing}
 use Rattle.tables.specs.declared.Doing.the-variants.{Quiet, AskingRead, AskingUpdate, Waiting, DoneRead, DoneUpdate}
-use Rattle.tables.specs.Layout.{copyWord, homeOf, holdersOf, holds, copyOf}
+use Rattle.tables.specs.Layout.{Place, cardAfterCard, copyAt, homeOf, holdersOf, holds}
 use Rattle.tables.specs.Doings.{doingAt, doingStored}
 
 -- card i is the only holder of register x
@@ -18,20 +18,8 @@ alone ws x i = holds ws x i && not (several (holdersOf ws x))
 unfoldable pub performReadNumber : List ℕ → ℕ → ℕ → ℕ
 performReadNumber ws t x = cond (holds ws x (homeOf ws t)) 0 22
 
-unfoldable pub performReadWords : List ℕ → ℕ → ℕ → List ℕ
-performReadWords ws t x = cond (holds ws x (homeOf ws t)) (doingStored ws t (DoneRead (copyOf ws (homeOf ws t) x))) ws
-
 unfoldable pub performUpdateNumber : List ℕ → ℕ → ℕ → ℕ
 performUpdateNumber ws t x = cond (alone ws x (homeOf ws t)) 0 22
-
--- card i's copy of register x after an update
-unfoldable pub copyUpdated : List ℕ → ℕ → ℕ → ℕ → ℕ → List ℕ
-copyUpdated ws i x f w = set ws (copyWord i x) (updated f w (copyOf ws i x))
-
--- the task is done with the value that its home's copy had just before
-unfoldable pub performUpdateWords : List ℕ → ℕ → ℕ → ℕ → ℕ → List ℕ
-performUpdateWords ws t x f w =
-    cond (alone ws x (homeOf ws t)) (doingStored (copyUpdated ws (homeOf ws t) x f w) t (DoneUpdate (copyOf ws (homeOf ws t) x))) ws
 
 -- 21: the task does not ask
 unfoldable pub performNumberOf : List ℕ → ℕ → Doing → ℕ
@@ -42,16 +30,47 @@ performNumberOf ws t Waiting = 21
 performNumberOf ws t (DoneRead v) = 21
 performNumberOf ws t (DoneUpdate v) = 21
 
-unfoldable pub performWordsOf : List ℕ → ℕ → Doing → List ℕ
-performWordsOf ws t Quiet = ws
-performWordsOf ws t (AskingRead x) = performReadWords ws t (x .0)
-performWordsOf ws t (AskingUpdate x f w) = performUpdateWords ws t (x .0) f w
-performWordsOf ws t Waiting = ws
-performWordsOf ws t (DoneRead v) = ws
-performWordsOf ws t (DoneUpdate v) = ws
-
 unfoldable pub performNumber : List ℕ → ℕ → ℕ
 performNumber ws t = performNumberOf ws t (doingAt ws t)
 
-unfoldable pub performWords : List ℕ → ℕ → List ℕ
-performWords ws t = performWordsOf ws t (doingAt ws t)
+-- ---- the words after it, where the copies lie at `place`
+
+abbrev pub performReadWordsAt : Place → List ℕ → ℕ → ℕ → List ℕ
+performReadWordsAt place ws t x = cond (holds ws x (homeOf ws t)) (doingStored ws t (DoneRead (copyAt place ws (homeOf ws t) x))) ws
+
+-- card i's copy of register x after an update
+unfoldable pub copyUpdatedAt : Place → List ℕ → ℕ → ℕ → ℕ → ℕ → List ℕ
+copyUpdatedAt place ws i x f w = set ws (place i x) (updated f w (copyAt place ws i x))
+
+-- the task is done with the value that its home's copy had just before
+abbrev pub performUpdateWordsAt : Place → List ℕ → ℕ → ℕ → ℕ → ℕ → List ℕ
+performUpdateWordsAt place ws t x f w =
+    cond (alone ws x (homeOf ws t)) (doingStored (copyUpdatedAt place ws (homeOf ws t) x f w) t (DoneUpdate (copyAt place ws (homeOf ws t) x))) ws
+
+abbrev pub performWordsOfAt : Place → List ℕ → ℕ → Doing → List ℕ
+performWordsOfAt place ws t Quiet = ws
+performWordsOfAt place ws t (AskingRead x) = performReadWordsAt place ws t (x .0)
+performWordsOfAt place ws t (AskingUpdate x f w) = performUpdateWordsAt place ws t (x .0) f w
+performWordsOfAt place ws t Waiting = ws
+performWordsOfAt place ws t (DoneRead v) = ws
+performWordsOfAt place ws t (DoneUpdate v) = ws
+
+abbrev pub performWordsAt : Place → List ℕ → ℕ → List ℕ
+performWordsAt place ws t = performWordsOfAt place ws t (doingAt ws t)
+
+-- ---- card after card, on paper; SideBySide has the case of the memory
+
+abbrev pub performReadWords : List ℕ → ℕ → ℕ → List ℕ
+performReadWords = performReadWordsAt cardAfterCard
+
+abbrev pub copyUpdated : List ℕ → ℕ → ℕ → ℕ → ℕ → List ℕ
+copyUpdated = copyUpdatedAt cardAfterCard
+
+abbrev pub performUpdateWords : List ℕ → ℕ → ℕ → ℕ → ℕ → List ℕ
+performUpdateWords = performUpdateWordsAt cardAfterCard
+
+abbrev pub performWordsOf : List ℕ → ℕ → Doing → List ℕ
+performWordsOf = performWordsOfAt cardAfterCard
+
+abbrev pub performWords : List ℕ → ℕ → List ℕ
+performWords = performWordsAt cardAfterCard

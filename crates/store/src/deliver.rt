@@ -2,8 +2,9 @@
 // update. The figure's i is the card, c the message's task; j, the sender of a do message, to whom a reply goes, is that task's home.
 ghost use mathlib.Core.Path.{_≡_};
 ghost use Rattle.names.specs.declared.Body.the-variants.{ReadDo, UpdateDo};
-ghost use Rattle.tables.specs.Layout.{copyOf};
-ghost use Rattle.store.specs.Deliver.{replied, applied, repliesHere, bodyNumber, bodyWords, messageNumber, messageWords, foundNumber, foundWords, deliverNumber, deliverRegisters, deliverChannel};
+ghost use Rattle.tables.specs.SideBySide.{copyOf};
+ghost use Rattle.store.specs.Deliver.{replied, repliesHere, bodyNumber, messageNumber, foundNumber, deliverNumber, deliverChannel};
+ghost use Rattle.store.specs.SideBySide.{applied, bodyWords, messageWords, foundWords, deliverRegisters};
 use super::perform::update_copy;
 use super::send::letter_for;
 use channel::Received;

@@ -14,6 +14,7 @@ pub use steps::step;
 pub use tables::begin::start;
 pub use tables::doings::kind_of;
 pub use tables::doings::value_of;
+pub use tables::panel::copies;
 pub use tables::panel::doing_of;
 pub use tables::panel::requests;
 pub use tables::panel::value;

@@ -1,20 +1,19 @@
 // Step 3: a task performs its request on its own card.
 ghost use mathlib.Core.Path.{_≡_};
-ghost use Rattle.tables.specs.Layout.{copyOf};
-ghost use Rattle.store.specs.Perform.{alone, performReadNumber, performReadWords, performUpdateNumber, performUpdateWords, copyUpdated, performNumberOf, performWordsOf, performNumber, performWords};
+ghost use Rattle.tables.specs.SideBySide.{copyOf};
+ghost use Rattle.store.specs.Perform.{alone, performReadNumber, performUpdateNumber, performNumberOf, performNumber};
+ghost use Rattle.store.specs.SideBySide.{performReadWords, performUpdateWords, copyUpdated, performWordsOf, performWords};
 use names::Card;
 use names::Register;
 use names::Task;
 use tables::Doing;
 use tables::doings::load;
 use tables::doings::store;
-use tables::layout::COPIES;
-use tables::layout::card_place;
 use tables::layout::copy;
+use tables::layout::copy_place;
 use tables::layout::holders;
 use tables::layout::holds;
 use tables::layout::home;
-use tables::layout::register_place;
 
 // Whether a card is the only holder of a register.
 pub(crate) fn alone(registers: &[u32; 593], register: Register, card: Card) -> bool
@@ -50,10 +49,9 @@ pub(crate) fn update_copy(
     ensures registers { λ _. ⌜ now (registers .exit) ≡ copyUpdated (now (registers .entry)) (card .0) (register .0) function operand ⌝ }
     ensures found { λ r. ⌜ r ≡ copyOf (now (registers .entry)) (card .0) (register .0) ⌝ }
 {
-    let at = COPIES + card_place(card) * 32 + register_place(register);
-    let found = registers[at];
+    let found = copy(registers, card, register);
     let next = names::update(function, operand, found);
-    registers[at] = next;
+    registers[copy_place(card, register)] = next;
     found
 }
 

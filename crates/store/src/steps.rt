@@ -1,6 +1,6 @@
 // A step as it is given.
 ghost use mathlib.Core.Path.{_≡_};
-ghost use Rattle.store.specs.Step.{outcome, taken, advanced, stepped};
+ghost use Rattle.store.specs.SideBySide.{taken, advanced, stepped};
 use super::asking::bare;
 use super::asking::report;
 use super::asking::request;

@@ -1,8 +1,12 @@
 -- Where things lie in the registers' memory, 593 words that the caller lends (RULES 11.1, 11.12). Word 0 is the number of requests taken. Then
 -- two words for each task: what it is doing (kind, register, function) below its home, and the value. Then a word for each register: its primary
--- below its holders. Then the copies, card after card. Then each card's outbox: where it starts, how many messages, 16 packets (a ring). The
--- numbers of cards, tasks and registers are the channel's. A card, task or register past its largest number, which no well-sized memory has,
+-- below its holders. Then the copies, register after register. Then each card's outbox: where it starts, how many messages, 16 packets (a ring).
+-- The numbers of cards, tasks and registers are the channel's. A card, task or register past its largest number, which no well-sized memory has,
 -- counts as the remainder.
+--
+-- Whatever depends on where the copies lie is defined once, over their place, which it takes first, under a name that ends in `At`. The name
+-- without the ending is its case card after card, in which the demands are proved; the same name in SideBySide is the case of the memory, which
+-- contracts cite.
 use Prim.Native.Nat.{ℕ, _+_, _*_, _/_, _%_}
 use mathlib.Core.Bool.{Bool}
 use mathlib.Core.List.{List}
@@ -23,9 +27,20 @@ valueWord t = 1 + t % 16 * 2 + 1
 abbrev pub registerWord : ℕ → ℕ
 registerWord x = 33 + x % 32
 
--- the copies lie card after card (RULES 11.8)
-abbrev pub copyWord : ℕ → ℕ → ℕ
-copyWord i x = 65 + i % 8 * 32 + x % 32
+-- where the copies lie: card i's copy of register x is word `place i x`
+abbrev pub Place : Type 0
+Place = ℕ → ℕ → ℕ
+
+-- register after register, the copies of one register side by side: as they lie in the memory (RULES 11.8)
+abbrev pub sideBySide : Place
+sideBySide i x = 65 + x % 32 * 8 + i % 8
+
+-- card after card: as they lay before, now on paper
+abbrev pub cardAfterCard : Place
+cardAfterCard i x = 65 + i % 8 * 32 + x % 32
+
+abbrev pub copyWord : Place
+copyWord = cardAfterCard
 
 abbrev pub outHeadWord : ℕ → ℕ
 outHeadWord i = 321 + i % 8 * 34
@@ -70,9 +85,12 @@ primaryOf ws x = primaryIn (getD ws (registerWord x) 0)
 unfoldable pub holds : List ℕ → ℕ → ℕ → Bool
 holds ws x i = memberOf (holdersOf ws x) i
 
--- the value of card i's copy of register x
+-- the value of card i's copy of register x, where the copies lie so; and card after card
+abbrev pub copyAt : Place → List ℕ → ℕ → ℕ → ℕ
+copyAt place ws i x = getD ws (place i x) 0
+
 abbrev pub copyOf : List ℕ → ℕ → ℕ → ℕ
-copyOf ws i x = getD ws (copyWord i x) 0
+copyOf = copyAt cardAfterCard
 
 -- the set of card i alone
 abbrev pub onlyCard : ℕ → ℕ

@@ -8,5 +8,8 @@ pub mod Start
 pub mod Panel
 -- What the memories show
 pub mod Shows
+-- The copies as they lie in the memory, and memories alike but for where they lie
+pub mod SideBySide
+pub mod Match
 -- What a panel shows, and where the copies lie, said apart
 pub mod PanelMeaning

@@ -3,31 +3,44 @@
 use Prim.Native.Nat.{ℕ, _+_, _*_, _<_, _≤_}
 use mathlib.Core.Path.{_≡_}
 use mathlib.Core.Logic.{_⊎_}
+use mathlib.Core.Bool.{cond}
 use mathlib.Core.List.{List}
-use lib.ListN.{getD}
+use lib.ListN.{length, getD}
 use Rattle.names.specs.declared.Card.{Card}
 use Rattle.names.specs.declared.Task.{Task}
 use Rattle.names.specs.declared.Register.{Register}
-use Rattle.names.specs.Placement.{Placement, tasks, registers}
+use Rattle.names.specs.Placement.{Placement, tasks, registers, copy}
 use Rattle.claims.specs.Found.{Found, quiet}
 use Rattle.tables.specs.declared.Doing.the-variants.{Quiet, AskingUpdate, DoneUpdate}
-use Rattle.tables.specs.Layout.{homeIn, primaryIn, holdersIn, copyOf, requestsOf}
+use Rattle.tables.specs.Layout.{Place, sideBySide, cardAfterCard, homeIn, primaryIn, holdersIn, copyAt, copyOf, requestsOf}
 use Rattle.tables.specs.Doings.{doingKindIn, askedIn, doingFunctionIn, taskWordOf, doingIn, doingValue}
-use Rattle.tables.specs.Panel.{valueShown, doingShown}
+use Rattle.tables.specs.Panel.{valueShownAt, copiesShownAt, doingShown}
 use Rattle.tables.specs.Shows.{statusOf, StoreShows}
 
 -- of memories that show placement P and state s
-pub record PanelMeaning (rs cs : List ℕ) (P : Placement) (s : Found) : Type 0 where
+pub record PanelMeaningAt (place : Place) (rs cs : List ℕ) (P : Placement) (s : Found) : Type 0 where
   -- the value of a present card's copy of a present register is the one in the table; any other is 0
-  pub value : (i : Card) (x : Register) → i .0 < P .cards → x .0 < registers P → valueShown rs cs i x ≡ s .table (i .0) (x .0)
-  pub no-value : (i : Card) (x : Register) → (P .cards ≤ i .0) ⊎ (registers P ≤ x .0) → valueShown rs cs i x ≡ 0
+  pub value : (i : Card) (x : Register) → i .0 < P .cards → x .0 < registers P → valueShownAt place rs cs i x ≡ s .table (i .0) (x .0)
+  pub no-value : (i : Card) (x : Register) → (P .cards ≤ i .0) ⊎ (registers P ≤ x .0) → valueShownAt place rs cs i x ≡ 0
   -- what a present task is doing is its status, with the value read or found; an absent one is quiet
   pub doing : (t : Task) → t .0 < tasks P → statusOf (doingShown rs cs t) ≡ s .status (t .0)
   pub no-doing : (t : Task) → tasks P ≤ t .0 → statusOf (doingShown rs cs t) ≡ quiet
   -- the number of requests taken
   pub requests : requestsOf rs ≡ s .requests
 
--- the copies lie card after card: from word 65 on 32 words for each card, in the order of the registers
+abbrev pub PanelMeaning : List ℕ → List ℕ → Placement → Found → Type 0
+PanelMeaning rs cs P s = PanelMeaningAt cardAfterCard rs cs P s
+
+-- the copies of a register at once, for eight cards: that of each card with a copy is the one in the table; any other is 0
+pub record CopiesMeaning (place : Place) (rs cs : List ℕ) (P : Placement) (s : Found) : Type 0 where
+  pub eight : (x : Register) → length (copiesShownAt place rs cs x) ≡ 8
+  pub copies : (i : ℕ) (x : Register) → getD (copiesShownAt place rs cs x) i 0 ≡ cond (copy P (x .0) i) (s .table i (x .0)) 0
+
+-- the copies lie register after register: from word 65 on 8 words for each register, in the order of the cards
+abbrev pub RegisterAfterRegister : Type 0
+RegisterAfterRegister = (rs : List ℕ) (i x : ℕ) → i < 8 → x < 32 → copyAt sideBySide rs i x ≡ getD rs (65 + 8 * x + i) 0
+
+-- and on paper card after card: 32 words for each card, in the order of the registers
 abbrev pub CardAfterCard : Type 0
 CardAfterCard = (rs : List ℕ) (i x : ℕ) → i < 8 → x < 32 → copyOf rs i x ≡ getD rs (65 + 32 * i + x) 0
 

@@ -15,7 +15,7 @@ use Rattle.claims.specs.Found.{Found, quiet, askingRead, askingUpdate, waiting,
 use Rattle.claims.specs.Found as F
 use Rattle.tables.specs.declared.Doing.{Doing}
 use Rattle.tables.specs.declared.Doing.the-variants.{Quiet, AskingRead, AskingUpdate, Waiting, DoneRead, DoneUpdate}
-use Rattle.tables.specs.Layout.{requestsOf, homeOf, holdersOf, primaryOf, copyOf}
+use Rattle.tables.specs.Layout.{Place, cardAfterCard, copyAt, requestsOf, homeOf, holdersOf, primaryOf}
 use Rattle.tables.specs.Doings.{doingAt}
 use Rattle.tables.specs.Outbox.{outCountOf, outPlace}
 
@@ -37,13 +37,13 @@ unfoldable pub outboxOf : List ℕ → ℕ → List F.Letter
 outboxOf rs i = listing (λ k. plain (letterAt rs (outPlace rs i k))) (outCountOf rs i)
 
 -- the registers' memory, among so many cards, tasks and registers
-pub record RegistersShow (rs : List ℕ) (cards tasks registers : ℕ) (P : Placement) (s : Found) : Type 0 where
+pub record RegistersShowAt (place : Place) (rs : List ℕ) (cards tasks registers : ℕ) (P : Placement) (s : Found) : Type 0 where
   pub home= : (c : ℕ) → c < tasks → home P c ≡ homeOf rs c
   pub holders= : (x : ℕ) → x < registers → holders P x ≡ holdersOf rs x
   pub primary= : (x : ℕ) → x < registers → primary P x ≡ primaryOf rs x
   pub requests= : s .requests ≡ requestsOf rs
   pub status= : (c : ℕ) → c < tasks → s .status c ≡ statusOf (doingAt rs c)
-  pub table= : (i x : ℕ) → i < cards → x < registers → s .table i x ≡ copyOf rs i x
+  pub table= : (i x : ℕ) → i < cards → x < registers → s .table i x ≡ copyAt place rs i x
   pub out= : (i : ℕ) → i < cards → s .out i ≡ outboxOf rs i
 
 -- the channel's memory
@@ -52,9 +52,17 @@ pub record ChannelShows (cs : List ℕ) (w : ChannelState F.Letter) : Type 0 whe
   pub shows : Shows cs letters
   pub plain= : w ≡ channel-map plain letters
 
-pub record StoreShows (rs cs : List ℕ) (P : Placement) (s : Found) : Type 0 where
+pub record StoreShowsAt (place : Place) (rs cs : List ℕ) (P : Placement) (s : Found) : Type 0 where
   pub cards= : P .cards ≡ cardsOf cs
   pub tasks= : tasks P ≡ tasksOf cs
   pub registers= : registers P ≡ registersOf cs
-  pub registers-show : RegistersShow rs (cardsOf cs) (tasksOf cs) (registersOf cs) P s
+  pub registers-show : RegistersShowAt place rs (cardsOf cs) (tasksOf cs) (registersOf cs) P s
   pub channel-shows : ChannelShows cs (s .channel)
+
+-- ---- card after card, on paper; SideBySide has the case of the memory
+
+abbrev pub RegistersShow : List ℕ → ℕ → ℕ → ℕ → Placement → Found → Type 0
+RegistersShow = RegistersShowAt cardAfterCard
+
+abbrev pub StoreShows : List ℕ → List ℕ → Placement → Found → Type 0
+StoreShows rs cs P s = StoreShowsAt cardAfterCard rs cs P s

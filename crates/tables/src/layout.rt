@@ -1,7 +1,8 @@
 // Where things lie in the registers' memory.
 ghost use mathlib.Core.Path.{_≡_};
 ghost use Prim.Native.Nat.{_<_, _%_};
-ghost use Rattle.tables.specs.Layout.{homeIn, homeOf, holdersOf, primaryOf, holds, copyOf, onlyCard};
+ghost use Rattle.tables.specs.Layout.{homeIn, homeOf, holdersOf, primaryOf, holds, sideBySide, onlyCard};
+ghost use Rattle.tables.specs.SideBySide.{copyOf};
 use names::Card;
 use names::Register;
 use names::Task;
@@ -15,7 +16,7 @@ pub const TASK: usize = 1;
 // The holders and the primary of register x.
 pub const REGISTER: usize = 33;
 
-// The copies, card after card.
+// The copies, register after register.
 pub const COPIES: usize = 65;
 
 // The words of card i's outbox start at OUTBOX + i * 34; its 16 packets from OUT + i * 34 on.
@@ -42,6 +43,13 @@ pub fn register_place(register: Register) -> usize
     ensures { λ r. ⌜ (r ≡ register .0 % 32) × (r < 32) ⌝ }
 {
     (register.0 % 32) as usize
+}
+
+// The word of a card's copy of a register: those of one register lie side by side.
+pub fn copy_place(card: Card, register: Register) -> usize
+    ensures { λ r. ⌜ (r ≡ sideBySide (card .0) (register .0)) × (r < 321) ⌝ }
+{
+    COPIES + register_place(register) * 8 + card_place(card)
 }
 
 // The home in a task's first word.
@@ -83,7 +91,7 @@ pub fn holds(registers: &[u32; 593], register: Register, card: Card) -> bool
 pub fn copy(registers: &[u32; 593], card: Card, register: Register) -> u32
     ensures { λ r. ⌜ r ≡ copyOf (now (registers .entry)) (card .0) (register .0) ⌝ }
 {
-    registers[COPIES + card_place(card) * 32 + register_place(register)]
+    registers[copy_place(card, register)]
 }
 
 // The set of one card.

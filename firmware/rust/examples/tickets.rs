@@ -79,8 +79,13 @@ fn main() -> Result<(), Box<dyn Error>> {
             write!(out, " task {task} has number {number}{end}")?;
         }
     }
-    for card in [0, 1] {
-        writeln!(out, "card {card} counts {}", store.copy(card, 0))?;
+    for (card, count) in store.copies(0).into_iter().enumerate() {
+        // No call says who holds a copy: the placement does.
+        if PLACE.copies[0] & (1 << card) != 0 {
+            writeln!(out, "card {card} counts {count}")?;
+        } else if count != 0 {
+            return Err("a count on a card without a copy".into());
+        }
     }
     Ok(out.flush()?)
 }

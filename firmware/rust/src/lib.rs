@@ -47,7 +47,8 @@
 //! 1 to a register are told different ones (RULES 5.15, `examples/tickets.rs`). A whole run file is
 //! answered by [`answer`], and written from a placement and [`Steps`] by [`write()`]; [`load()`]
 //! draws one from a seed. A refusal prints as a phrase; [`sentence()`] says it with the place of its
-//! step. A register's log is added up by [`total()`], and card by card by [`total_by_card`].
+//! step. A register's log is added up by [`total()`], and card by card by [`total_by_card`]; its
+//! copies on all cards are fetched at once by [`Store::copies`].
 //!
 //! # Memory
 //!

@@ -21,7 +21,7 @@ const fn number(digits: &str) -> u32 {
     number
 }
 
-/// The version of the library that is linked, in the form of [`VERSION`]: 10000 is 0.10.0.
+/// The version of the library that is linked, in the form of [`VERSION`]: 11000 is 0.11.0.
 ///
 /// ```
 /// assert_eq!(gondzselu::version(), gondzselu::VERSION);

@@ -124,6 +124,12 @@ extern "C" {
         total: *mut u32,
     ) -> u8;
     fn gondzselu_copy(registers: *const u32, channel: *const u32, card: u32, register: u32) -> u32;
+    fn gondzselu_copies(
+        registers: *const u32,
+        channel: *const u32,
+        register: u32,
+        copies: *mut u32,
+    );
     fn gondzselu_task(registers: *const u32, channel: *const u32, task: u32) -> u32;
     fn gondzselu_task_value(registers: *const u32, channel: *const u32, task: u32) -> u32;
     fn gondzselu_broadcasts(channel: *const u32) -> u32;

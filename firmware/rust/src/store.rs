@@ -4,7 +4,7 @@ use core::fmt;
 
 use crate::raw::Memories;
 use crate::refusal::done;
-use crate::{Condition, Refusal, Step, Taken, Tally, CHANNEL_WORDS, REGISTERS_WORDS};
+use crate::{Condition, Refusal, Step, Taken, Tally, CHANNEL_WORDS, MAX_CARDS, REGISTERS_WORDS};
 
 /// Where tasks live and copies lie (RULES 10.1). Tasks and registers are as many as `homes`
 /// and `copies` are long.
@@ -203,8 +203,32 @@ impl Store {
     /// The value of a card's copy of a register; 0 for an absent card or register, and, in a
     /// run, for a card without a copy: the placement says which cards hold one, the store does
     /// not.
+    #[inline]
     pub fn copy(&self, card: u8, register: u8) -> u32 {
         self.memories.copy(card, register)
+    }
+
+    /// The copies of a register on all cards at once, by card: the value of the card's copy; 0 for
+    /// an absent card, for a card without a copy, on any words, and for every card if the register
+    /// is absent. They lie side by side (RULES 11.8).
+    ///
+    /// ```
+    /// # use gondzselu::{Function, Placement, Refusal, Step, Store};
+    /// // Register 0 lies on cards 1 and 2; task 0 is on card 1.
+    /// let place = Placement { cards: 3, homes: &[1], copies: &[0b110], primaries: &[1] };
+    /// let mut store = Store::start(place)?;
+    /// store.step(Step::RequestUpdate { task: 0, register: 0, function: Function::Set, operand: 7 })?;
+    /// store.step(Step::SendUpdate { task: 0 })?;
+    /// store.step(Step::Dispatch { card: 1 })?;
+    /// store.step(Step::TakeBroadcast { card: 1 })?;
+    /// store.step(Step::Deliver { card: 1 })?;
+    /// assert_eq!(store.copies(0), [0, 7, 0, 0, 0, 0, 0, 0]); // card 2 has yet to take it
+    /// assert_eq!(store.copies(1), [0; 8]);
+    /// # Ok::<(), Refusal>(())
+    /// ```
+    #[inline]
+    pub fn copies(&self, register: u8) -> [u32; MAX_CARDS] {
+        self.memories.copies(register)
     }
 
     /// What a task is doing; an absent task is quiet.
@@ -253,7 +277,7 @@ impl Store {
     }
 
     /// The words of both memories, of the registers and of the channel, to keep or to send. What
-    /// lies where is said in RULES 11.12, and was otherwise before 0.8.0.
+    /// lies where is said in RULES 11.12, and was otherwise before 0.11.0.
     pub fn words(&self) -> (&[u32; REGISTERS_WORDS], &[u32; CHANNEL_WORDS]) {
         self.memories.words()
     }

@@ -67,6 +67,8 @@ fn k9_by_every_kind_of_step() {
     let store = &stores[0];
     assert_eq!([0, 1, 2].map(|card| store.copy(card, 0)), [7, 7, 0]);
     assert_eq!(store.copy(1, 1), 9);
+    let by_card = [[7, 7, 0, 0, 0, 0, 0, 0], [0, 9, 0, 0, 0, 0, 0, 0], [0; 8]];
+    assert_eq!([0, 1, 2].map(|register| store.copies(register)), by_card);
     assert_eq!((store.requests(), store.broadcasts()), (3, 1));
     let taken = [0, 1, 2, 3].map(|card| store.broadcasts_taken(card));
     assert_eq!(taken, [1, 1, 0, 0]);
@@ -276,6 +278,7 @@ fn any_words_are_safe() {
         }
         for number in [0, 1, 8, 16, 32, 255] {
             store.copy(number, number);
+            store.copies(number);
             store.task(number);
             store.broadcasts_taken(number);
         }

@@ -131,9 +131,9 @@ mod tests {
         let mut runs = named::runs().into_iter();
         let run = runs.find(|run| run.name == name).expect("a named run");
         let run = Run::read(&run.file).expect("an accepted file");
-        let registers = run.placement.registers.len();
+        let cards = run.placement.cards as usize;
         let mut state = State::start(run.placement).expect("an accepted placement");
-        for (copy, value) in state.copies.iter_mut().step_by(registers).zip(copies) {
+        for (copy, value) in state.copies.iter_mut().take(cards).zip(copies) {
             *copy = value;
         }
         let mut updates = Updates::default();

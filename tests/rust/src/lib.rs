@@ -7,13 +7,14 @@
 //! `sentence` puts refusals into words, `logs` has what totals are made of, `stored`, `view`, `say`,
 //! `compose`, `sums` and `loads` have the files that the tree keeps (`folder`), `selfcheck`,
 //! `consistency` and `applied` try the model itself, `library` compares the store with it, `writing` a
-//! writer of run files, `loading` a drawer of loads, `totalling` readers of logs, and `roundtrip` the
-//! programs `view` and `compose`.
+//! writer of run files, `loading` a drawer of loads, `totalling` readers of logs, `fetching` readers of
+//! copies, and `roundtrip` the programs `view` and `compose`.
 
 pub mod applied;
 pub mod by_hand;
 pub mod compose;
 pub mod consistency;
+pub mod fetching;
 pub mod folder;
 pub mod generate;
 #[cfg(feature = "library")]

@@ -4,6 +4,7 @@
 
 mod c;
 mod calls;
+mod copies;
 pub mod load;
 pub mod sentences;
 pub mod states;
@@ -14,6 +15,7 @@ pub mod write;
 
 use gondzselu::{Condition, Refusal, Store, Tally};
 
+use crate::fetching::{Compared, Of};
 use crate::memory::{self, Words};
 use crate::model::files::{answer_file, answer_into, program_output, Run};
 use crate::model::placement::Placement;
@@ -23,8 +25,8 @@ use crate::named;
 use crate::random::Random;
 use calls::Calls;
 
-/// Version 0.10.0.
-const VERSION: u32 = 10_000;
+/// Version 0.11.0.
+const VERSION: u32 = 11_000;
 
 /// What lies in a lent output before.
 const FILL: u8 = 0xA5;
@@ -113,7 +115,11 @@ fn start(placement: &Placement) -> Result<Store, String> {
 /// Compares the steps of one file taken one by one, by every call that takes a step, each of
 /// them checked: results, values, tally, what the memories show (at some steps and the last), and
 /// that a refused step changes no word.
-pub fn compare_steps(file: &[u8], random: &mut Random) -> Result<(), String> {
+pub fn compare_steps(
+    file: &[u8],
+    random: &mut Random,
+    compared: &mut Compared,
+) -> Result<(), String> {
     let mut begun = Store::from_words(
         &[random.bits() as u32; gondzselu::REGISTERS_WORDS],
         &[random.bits() as u32; gondzselu::CHANNEL_WORDS],
@@ -137,7 +143,8 @@ pub fn compare_steps(file: &[u8], random: &mut Random) -> Result<(), String> {
         step(&mut state, &mut calls, code, argument, look)
             .map_err(|words| format!("step {number}: {words}"))?;
     }
-    compare_panel(&state, calls.store())
+    compare_panel(&state, calls.store())?;
+    copies::compare(Of::Runs, calls.store(), Some(&state), compared)
 }
 
 /// Takes a step with all and compares.
@@ -198,6 +205,14 @@ pub fn compare_panel(state: &State, store: &Store) -> Result<(), String> {
                 0
             };
             same("copy", store.copy(card, register), value)?;
+        }
+    }
+    for register in 0..=u8::MAX {
+        let (found, wanted) = (store.copies(register), state.copies_of(register as usize));
+        if found != wanted {
+            return Err(format!(
+                "copies of register {register}: {found:?}, not {wanted:?}"
+            ));
         }
     }
     for task in 0..17 {

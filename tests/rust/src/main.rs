@@ -1,5 +1,7 @@
 //! `compare`: the model's answers, generated files and checks, from the command line.
 
+#[cfg(feature = "library")]
+mod linked;
 mod usage;
 
 use std::io::Write;
@@ -9,10 +11,6 @@ use std::process::ExitCode;
 use gondzselu_model::compose;
 use gondzselu_model::folder;
 use gondzselu_model::generate::{self, Kind};
-#[cfg(feature = "library")]
-use gondzselu_model::library;
-#[cfg(feature = "library")]
-use gondzselu_model::loading;
 use gondzselu_model::loads;
 use gondzselu_model::model::files::{program_output, RawStep, Run};
 use gondzselu_model::named;
@@ -24,11 +22,7 @@ use gondzselu_model::sentence::{sentence, PHRASES};
 use gondzselu_model::statistics::{self, Statistics};
 use gondzselu_model::stored;
 use gondzselu_model::sums;
-#[cfg(feature = "library")]
-use gondzselu_model::totalling;
 use gondzselu_model::view;
-#[cfg(feature = "library")]
-use gondzselu_model::writing;
 use usage::USAGE;
 
 fn main() -> ExitCode {
@@ -56,27 +50,19 @@ fn main() -> ExitCode {
         ["statistics", seed, count] => each(seed, count, |_, _| Ok(())),
         ["self", seed, count] => self_checks(seed, count),
         #[cfg(feature = "library")]
-        ["library", seed, count] => each(seed, count, |_, file| library::compare(file)),
+        ["library", seed, count] => linked::files(seed, count),
         #[cfg(feature = "library")]
-        ["steps", seed, count] => each(seed, count, |item, file| {
-            library::compare_steps(file, &mut Random::new(item, 1))
-        }),
+        ["steps", seed, count] => linked::steps(seed, count),
         #[cfg(feature = "library")]
-        ["states", seed, count] => states(seed, count),
+        ["states", seed, count] => linked::states(seed, count),
         #[cfg(feature = "library")]
-        ["sentences-library"] => sentences_library(),
+        ["sentences-library"] => linked::sentences(),
         #[cfg(feature = "library")]
-        ["write", seed, count] => {
-            let missing = writing::Compared::missing;
-            items(seed, count, library::write::compare, missing)
-        }
+        ["write", seed, count] => linked::write(seed, count),
         #[cfg(feature = "library")]
-        ["loading", seed, count] => library_loads(seed, count),
+        ["loading", seed, count] => linked::loads(seed, count),
         #[cfg(feature = "library")]
-        ["totals", seed, count] => {
-            let missing = totalling::Compared::missing;
-            items(seed, count, library::totals::compare, missing)
-        }
+        ["totals", seed, count] => linked::totals(seed, count),
         _ => Err(format!("what?\n{USAGE}")),
     };
     match result {
@@ -130,7 +116,7 @@ fn names() -> Result<(), String> {
 /// A line for each refusal of a step, of step 0. With the library, its sentences are compared first.
 fn sentences() -> Result<(), String> {
     #[cfg(feature = "library")]
-    library::sentences::compare()?;
+    gondzselu_model::library::sentences::compare()?;
     for (refusal, _) in PHRASES {
         println!("{}", sentence(0, refusal).expect("a phrase"));
     }
@@ -253,63 +239,4 @@ fn self_checks(seed: &str, count: &str) -> Result<(), String> {
         "checked {runs} runs, {steps} steps, {orders} serial orders, {again} values found by a further holder"
     );
     Ok(())
-}
-
-/// K1 to K13, single words of the memories, and states made by hand.
-#[cfg(feature = "library")]
-fn states(seed: &str, count: &str) -> Result<(), String> {
-    library::compare_named()?;
-    let words = library::words::compare()?;
-    let (seed, count) = (number(seed)?, number(count)?);
-    let mut compared = library::states::Compared::default();
-    for item in 0..count {
-        library::states::compare(&mut Random::new(seed, item), &mut compared)
-            .map_err(|words| format!("seed {seed} item {item}: {words}"))?;
-    }
-    println!("K1 to K13, {words} single words");
-    println!(
-        "{} states, {} of them ill-sized; steps of the others by result",
-        compared.states, compared.ill_sized
-    );
-    for (result, count) in &compared.results {
-        println!("  {result:>3} {count:>9}");
-    }
-    let mut missing = statistics::by_hand(compared.states, compared.ill_sized, &compared.results);
-    missing.extend(statistics::faults(&compared.faults));
-    reached(count, statistics::STATES, missing)
-}
-
-/// Seeds at their ends, then loads of a seed.
-#[cfg(feature = "library")]
-fn library_loads(seed: &str, count: &str) -> Result<(), String> {
-    let ends = library::load::ends()?;
-    println!("loads of seeds at their ends {ends}");
-    let missing = loading::Compared::missing;
-    items(seed, count, library::load::compare, missing)
-}
-
-/// Every refusal, steps about every power of ten, outputs of every length.
-#[cfg(feature = "library")]
-fn sentences_library() -> Result<(), String> {
-    let library::sentences::Compared { steps, calls } = library::sentences::compare()?;
-    println!("sentences of {steps} steps and 256 refusals, {calls} calls");
-    Ok(())
-}
-
-/// Compares on each item of a seed, and prints what was compared.
-#[cfg(feature = "library")]
-fn items<Compared: Default + std::fmt::Display>(
-    seed: &str,
-    count: &str,
-    compare: fn(&mut Random, &mut Compared) -> Result<(), String>,
-    missing: fn(&Compared) -> Vec<String>,
-) -> Result<(), String> {
-    let (seed, count) = (number(seed)?, number(count)?);
-    let mut compared = Compared::default();
-    for item in 0..count {
-        compare(&mut Random::new(seed, item), &mut compared)
-            .map_err(|words| format!("seed {seed} item {item}: {words}"))?;
-    }
-    println!("{compared}");
-    reached(count, statistics::FILES, missing(&compared))
 }

@@ -1,13 +1,16 @@
 //! The store's two memories, word by word: where things lie in them is said here, as in RULES 11.12,
 //! and for the proofs in `crates/tables/specs/Layout` and `crates/channel/specs/Layout`. A state of
-//! the model is `written` into them and `shown` by them, and `sized` says which are well sized.
+//! the model is `written` into them and `shown` by them, `sized` says which are well sized, and
+//! `copies` what a panel reads of the copies in any of them.
 
+mod copies;
 mod shown;
 mod sized;
 #[cfg(test)]
 mod tests;
 mod written;
 
+pub use copies::{read_copies, read_copy};
 pub use shown::shown;
 pub use sized::well_sized;
 pub use written::written;
@@ -89,8 +92,9 @@ pub fn register(register: usize) -> usize {
     33 + register
 }
 
+/// Register after register, the eight of one side by side.
 pub fn copy(card: usize, register: usize) -> usize {
-    65 + 32 * card + register
+    65 + 8 * register + card
 }
 
 /// Where it starts in its ring, and how many messages.

@@ -5,6 +5,7 @@
 //! and then taken (`take`), so a refused step plainly changes nothing.
 
 pub mod channel;
+mod copies;
 pub mod files;
 #[cfg(test)]
 mod found;
@@ -89,7 +90,7 @@ impl Value {
 #[derive(Clone, Debug, PartialEq, Eq)]
 pub struct State {
     pub placement: Placement,
-    /// Card after card (RULES 11.8, where each card has room for 32 of them).
+    /// Register after register (RULES 11.8, where each has room for the copies of 8 cards).
     pub copies: Vec<u32>,
     pub tasks: Vec<Task>,
     /// Requests taken, of all tasks together.
@@ -145,11 +146,11 @@ impl State {
     }
 
     pub fn copy(&self, card: Card, register: Register) -> u32 {
-        self.copies[card * self.placement.registers.len() + register]
+        self.copies[register * self.placement.cards as usize + card]
     }
 
     fn copy_mut(&mut self, card: Card, register: Register) -> &mut u32 {
-        &mut self.copies[card * self.placement.registers.len() + register]
+        &mut self.copies[register * self.placement.cards as usize + card]
     }
 
     /// Takes a step that `judge` allowed and gives result and value of the answer file (RULES 5.1 to

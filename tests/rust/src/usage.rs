@@ -23,7 +23,7 @@ compare roundtrip BIN SEED COUNT runs the programs view and compose of a folder 
                                  view prints of them, and compose on spoiled texts
 compare spoiled SEED ITEM COUNT  the spoiled text of one of them
 compare library SEED COUNT       compares the library on files (feature library)
-compare steps SEED COUNT         the same, step by step, with what the memories show
+compare steps SEED COUNT         the same, step by step, with what the memories show and panels read
 compare states SEED COUNT        compares it on states made by hand, and on K1 to K13
 compare sentences-library        compares its sentences
 compare write SEED COUNT         compares the run files that it writes from tables
@@ -37,4 +37,5 @@ answer; where the tables or loads miss a refusal, a reason for it, a size or a l
 output, or the loads a seed or a code; where the logs miss a length, a card, an operand or a
 refusal, or those of runs are too few; from 100 on, where the loads of the program miss a refusal,
 a sort of arguments, a size or a code; and from 10,000 on, where the states are all of one sort or
-miss a result.";
+miss a result. Of copies read at once runs and states must have each sort: absent registers too,
+and in states words of cards that hold none, absent holders, and sizes past their limits.";

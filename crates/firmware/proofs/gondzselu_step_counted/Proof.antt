@@ -41,7 +41,8 @@ use denote.Signature.{Slot, plain}
 use Rattle.tally.specs.declared.Tally.{Tally}
 use Rattle.tally.specs.Tally.{counted}
 use Rattle.channel.specs.Layout.{channelWords}
-use Rattle.store.specs.Step.{stepped, Outcome}
+use Rattle.store.specs.Step.{Outcome}
+use Rattle.store.specs.SideBySide.{stepped}
 use Rattle.firmware.specs.declared.Counts.{Counts}
 use Rattle.firmware.specs.StepTally.{countsOf}
 use Rattle.firmware.proofs.StepTallyLaws.{counted-once, result-is}

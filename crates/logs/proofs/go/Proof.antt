@@ -2,7 +2,7 @@ use mathlib.Core.Path.{_≡_, sym, ap, ap₂, _∙_}
 use Prim.Native.Nat.{_-_, _≤_}
 use native.Mathlib.Omega.{arith}
 use lib.ListN.{length}
-use Rattle.store.specs.Step.{advanced}
+use Rattle.store.specs.SideBySide.{advanced}
 use Rattle.store.specs.Run.{Store}
 use Rattle.runfile.specs.declared.Sizes.{Sizes}
 use Rattle.runfile.specs.RunFile.{stepsIn, placementIn, codeIn, argumentIn, stepIn}

@@ -1,7 +1,7 @@
 //! The calls that take a store's memories.
 
 use super::*;
-use crate::{library, CHANNEL_WORDS, REGISTERS_WORDS};
+use crate::{library, CHANNEL_WORDS, MAX_CARDS, REGISTERS_WORDS};
 
 /// The two memories of a store. Whatever their words are, every method is safe.
 #[derive(Clone, PartialEq, Eq)]
@@ -37,6 +37,7 @@ impl Memories {
         }
     }
 
+    #[inline]
     fn lend(&self) -> (*const u32, *const u32) {
         self.require();
         (self.registers.as_ptr(), self.channel.as_ptr())
@@ -109,10 +110,20 @@ impl Memories {
         (result, value)
     }
 
+    #[inline]
     pub fn copy(&self, card: u8, register: u8) -> u32 {
         let (registers, channel) = self.lend();
         // SAFETY: both memories, which are only read.
         unsafe { gondzselu_copy(registers, channel, card.into(), register.into()) }
+    }
+
+    #[inline]
+    pub fn copies(&self, register: u8) -> [u32; MAX_CARDS] {
+        let (registers, channel) = self.lend();
+        let mut copies = [0; MAX_CARDS];
+        // SAFETY: as `copy`, and a place for a word of each card.
+        unsafe { gondzselu_copies(registers, channel, register.into(), copies.as_mut_ptr()) };
+        copies
     }
 
     pub fn task(&self, task: u8) -> u32 {

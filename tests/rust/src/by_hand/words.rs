@@ -34,12 +34,13 @@ const FLIGHT: usize = 7;
 /// The cards and tasks that have something in one of these states, and some that have nothing.
 pub const LOOKED_AT: [u8; 8] = [0, 1, 3, 4, 5, 6, 7, 9];
 
-/// A state of these sizes with a message in every kind of place.
+/// A state of these sizes with a message in every kind of place, and no two copies alike.
 pub fn filled((cards, registers, tasks, made): Sizes) -> State {
     let all = ((1u32 << cards) - 1) as Cards;
     let homes: Vec<u8> = (0..tasks as u8).map(|task| task % cards).collect();
     let placement = Placement::new(cards, &homes, &vec![(all, 0); registers]);
     let mut state = State::start(placement).expect("an accepted placement");
+    state.copies = (1..).take(state.copies.len()).collect();
     let body = Body::Request(Request::Update {
         register: registers - 1,
         function: 1,

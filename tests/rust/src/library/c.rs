@@ -30,6 +30,7 @@ extern "C" {
         tally: *mut Tally,
     ) -> u8;
     fn gondzselu_copy(registers: *const u32, channel: *const u32, card: u32, register: u32) -> u32;
+    fn gondzselu_copies(registers: *const u32, channel: *const u32, register: u32, at: *mut u32);
     fn gondzselu_task(registers: *const u32, channel: *const u32, task: u32) -> u32;
     fn gondzselu_task_value(registers: *const u32, channel: *const u32, task: u32) -> u32;
     fn gondzselu_broadcasts_taken(channel: *const u32, card: u32) -> u32;
@@ -145,6 +146,16 @@ pub fn step_counted(
 pub fn copy(store: &Store, card: u32, register: u32) -> u32 {
     let (registers, channel) = read(store);
     unsafe { gondzselu_copy(registers, channel, card, register) }
+}
+
+/// By card; nothing where a word before or after the eight is written.
+pub fn copies(store: &Store, register: u32) -> Option<[u32; 8]> {
+    let (registers, channel) = read(store);
+    let mut page = [[BEFORE; 8]; 3];
+    let at = page.as_mut_ptr().cast::<u32>();
+    unsafe { gondzselu_copies(registers, channel, register, at.add(8)) };
+    let [before, copies, after] = page;
+    (before == [BEFORE; 8] && after == before).then_some(copies)
 }
 
 /// The condition's number, and its value.

@@ -3,8 +3,9 @@
 use std::collections::BTreeMap;
 
 use super::calls::Calls;
-use super::{compare_panel, shown, store, wild};
+use super::{compare_panel, copies, shown, store, wild};
 use crate::by_hand;
+use crate::fetching::{self, Of};
 use crate::generate::near;
 use crate::memory::written;
 use crate::model::results::taken;
@@ -19,6 +20,8 @@ pub struct Compared {
     pub faults: BTreeMap<&'static str, usize>,
     /// Results of steps from well-sized states, by number.
     pub results: BTreeMap<u8, usize>,
+    /// Copies of all these and of single words.
+    pub copies: fetching::Compared,
 }
 
 /// Compares some steps from a state made by hand, by every call that takes a step.
@@ -36,7 +39,8 @@ pub fn compare(random: &mut Random, compared: &mut Compared) -> Result<(), Strin
         }
         compare_panel(&state, &store)?;
     }
-    wild::compare(words, random)?;
+    copies::compare(Of::States, &store, Some(&state), &mut compared.copies)?;
+    wild::compare(words, random, &mut compared.copies)?;
     let mut calls = Calls::new(store, random.bits());
     for number in 0..random.between(1, 12) {
         let (code, argument) = near(random, &state.placement);

@@ -30,14 +30,21 @@ pub fn compare(random: &mut Random, compared: &mut Compared) -> Result<(), Strin
     totalling::compare(random, compared, readings, &copies)
 }
 
-/// The value of each register's copy on its primary.
+/// The value of each register's copy on its primary, alone and with the others at once.
 fn copies(run: &Run) -> Result<Vec<u32>, String> {
     let mut store = start(&run.placement)?;
     for &(code, argument) in &run.steps {
         c::advance(&mut store, code, argument);
     }
     let places = run.placement.registers.iter().enumerate();
-    let copy = |(register, primary)| c::copy(&store, primary, register);
-    let places = places.map(|(register, place)| (register as u32, place.primary as u32));
-    Ok(places.map(copy).collect())
+    let copy = |(register, primary): (u32, u8)| {
+        let copy = c::copy(&store, primary as u32, register);
+        let at_once = c::copies(&store, register).map(|copies| copies[primary as usize]);
+        match at_once == Some(copy) {
+            true => Ok(copy),
+            false => Err(format!("register {register}: {copy}, at once {at_once:?}")),
+        }
+    };
+    let places = places.map(|(register, place)| (register as u32, place.primary));
+    places.map(copy).collect()
 }

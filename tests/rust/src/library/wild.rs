@@ -5,8 +5,9 @@
 use gondzselu::Store;
 
 use super::calls::Calls;
-use super::shown;
+use super::{copies, shown};
 use crate::by_hand::wild::wild;
+use crate::fetching::{Compared, Of};
 use crate::generate::near;
 use crate::memory::{well_sized, Words};
 use crate::random::Random;
@@ -21,9 +22,15 @@ struct Fenced {
 
 const FENCE: u32 = 0x5A5A_5A5A;
 
-pub fn compare(mut words: Words, random: &mut Random) -> Result<(), String> {
+pub fn compare(
+    mut words: Words,
+    random: &mut Random,
+    compared: &mut Compared,
+) -> Result<(), String> {
     wild(&mut words, random);
     let store = super::store(&words);
+    copies::compare(Of::Wild, &store, None, compared)
+        .map_err(|words| format!("wild words: {words}"))?;
     let well_sized = well_sized(&words.registers, &words.channel);
     let answer = super::c::step(&mut store.clone(), 0, [0; 8]);
     if answer != (if well_sized { 10 } else { 6 }, 0) {

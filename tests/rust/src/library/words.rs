@@ -4,13 +4,15 @@
 use gondzselu::Store;
 
 use super::calls::Calls;
-use super::{shown, store};
+use super::{copies, shown, store};
 use crate::by_hand::words::{filled, rows, Row, LOOKED_AT, SIZES};
+use crate::fetching::{Compared, Of};
 use crate::memory::written;
 use crate::random::Random;
 
-/// Compares word by word, by every call that takes a step; says how many states were tried.
-pub fn compare() -> Result<usize, String> {
+/// Compares word by word, by every call that takes a step, and the copies that are read; says how
+/// many states were tried.
+pub fn compare(compared: &mut Compared) -> Result<usize, String> {
     let mut tried = 0;
     let mut random = Random::new(0, 0);
     for sizes in SIZES {
@@ -30,9 +32,11 @@ pub fn compare() -> Result<usize, String> {
                     let (registers, channels) = changed.words_mut();
                     let words: &mut [u32] = if channel { channels } else { registers };
                     words[at] = value;
-                    compare_word(changed, fine, tried as u64).map_err(|words| {
-                        format!("sizes {sizes:?}, {name}, word {at} is {value}: {words}")
-                    })?;
+                    copies::compare(Of::Words, &changed, None, compared)
+                        .and_then(|()| compare_word(changed, fine, tried as u64))
+                        .map_err(|words| {
+                            format!("sizes {sizes:?}, {name}, word {at} is {value}: {words}")
+                        })?;
                     tried += 1;
                 }
             }

@@ -78,8 +78,8 @@ pub fn shown(words: &[u32; REGISTERS_WORDS], c: &[u32; CHANNEL_WORDS]) -> State 
                 .collect(),
             registers: (0..registers).map(place).collect(),
         },
-        copies: (0..cards * registers)
-            .map(|at| words[copy(at / registers, at % registers)])
+        copies: (0..registers * cards)
+            .map(|at| words[copy(at % cards, at / cards)])
             .collect(),
         tasks: (0..tasks)
             .map(|number| task_in(&words[task(number)..]))

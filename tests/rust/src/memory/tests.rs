@@ -79,6 +79,17 @@ fn places_and_fields() {
     assert_eq!([PRIMARY.most(), HOLDERS.most()], [7, 536_870_911]);
 }
 
+/// RULES 11.8: register after register, the copies of one side by side, 256 words and no more.
+#[test]
+fn places_of_copies() {
+    let cards = |register: usize| [0, 1, 6, 7].map(|card| copy(card, register));
+    assert_eq!(cards(0), [65, 66, 71, 72]);
+    assert_eq!(cards(1), [73, 74, 79, 80]);
+    assert_eq!(cards(31), [313, 314, 319, 320]);
+    let places = (0..32).flat_map(|register| (0..8).map(move |card| copy(card, register)));
+    assert!(places.eq(65..=320));
+}
+
 /// A field put is found again, and the others stay.
 #[test]
 fn fields_are_apart() {
@@ -166,6 +177,24 @@ fn k9_in_words() {
     take(&mut state, 2);
     assert!(well_sized(&registers, &channel));
     assert!(shown(&registers, &channel) == state);
+}
+
+/// K9 as it ends (RULES 12.11): card 0's copy of register 0 is 7, card 1's copies are 7 and 9.
+#[test]
+fn copies_of_k9_in_words() {
+    let k9 = named::runs().into_iter().find(|run| run.name == "K9");
+    let run = Run::read(&k9.expect("K9").file).expect("an accepted file");
+    let mut state = State::start(run.placement).expect("an accepted placement");
+    for (code, argument) in run.steps {
+        state.step(code, argument);
+    }
+    let Words { registers, channel } = written(&state, &mut Random::new(0, 0));
+    assert_eq!(registers[65..68], [7, 7, 0]);
+    assert_eq!(registers[73..76], [0, 9, 0]);
+    let read = |number| read_copies(&registers, &channel, number);
+    assert_eq!(read(0), [7, 7, 0, 0, 0, 0, 0, 0]);
+    assert_eq!(read(1), [0, 9, 0, 0, 0, 0, 0, 0]);
+    assert_eq!(read(2), [0; 8]);
 }
 
 /// Queues that come round in their rings, messages held and in flight, tasks that are done.

@@ -6,7 +6,8 @@ use Rattle.names.specs.declared.Answer.{Answer}
 use Rattle.names.specs.Results.{isTaken}
 use Rattle.channel.specs.Layout.{cardsOf, tasksOf, registersOf}
 use Rattle.commands.specs.Decode.{decodeOf}
-use Rattle.store.specs.Step.{Outcome, advanced}
+use Rattle.store.specs.Step.{Outcome}
+use Rattle.store.specs.SideBySide.{advanced}
 use Rattle.runfile.specs.RunFile.{argumentIn, codeIn, placementIn}
 use Rattle.logs.specs.Entries.{commandEntry, stepEntry}
 use borrow.Author.Needs.{needs}

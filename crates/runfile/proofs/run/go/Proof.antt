@@ -6,7 +6,7 @@ use native.Mathlib.Omega.{arith}
 use lib.ListN.{length}
 use Rattle.lists.specs.Loops.{turns-zero, turns-more, total, total-zero, total-more}
 use Rattle.names.specs.declared.Answer.{Answer}
-use Rattle.store.specs.Step.{advanced}
+use Rattle.store.specs.SideBySide.{advanced}
 use Rattle.store.specs.Run.{Store}
 use Rattle.runfile.specs.RunFile.{stepsIn, stepIn, codeIn, argumentIn}
 use Rattle.runfile.specs.AnswerFile.{headed, putAnswer, putAnswers}

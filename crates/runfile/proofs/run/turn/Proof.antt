@@ -2,7 +2,8 @@ use mathlib.Core.Path.{_≡_, ap, ap₂, _∙_}
 use mathlib.Core.List.{List}
 use Prim.Native.Nat.{ℕ}
 use native.Mathlib.Omega.{arith}
-use Rattle.store.specs.Step.{Outcome, advanced}
+use Rattle.store.specs.Step.{Outcome}
+use Rattle.store.specs.SideBySide.{advanced}
 use Rattle.runfile.specs.RunFile.{codeIn, argumentIn, copiesAt, primariesAt, codesAt, argumentsAt, fileLength}
 use Rattle.runfile.specs.AnswerFile.{putAnswer}
 use borrow.Author.Needs.{needs}

@@ -1,5 +1,5 @@
 use borrow.Author.Needs.{needs}
-use Rattle.store.specs.Deliver.{applied}
+use Rattle.store.specs.Deliver.{appliedAt}
 use Rattle.store.proofs.deliver.apply.Statement.{statement}
 use Rattle.store.proofs.deliver.apply.Tie as tie
 
@@ -13,7 +13,7 @@ end-update-requires : tie.Need-end-update-requires
 end-update-requires c κs = search needs
 
 returns : tie.Need-returns
-unfolding applied
+unfolding appliedAt
 returns c =
     let u = c .before .before .before .before .update-copy .ensures in
     (simp (c .before .before .before .before .before .before .home .ensures, c .end-update .ensures, u .0, u .1), u .1)

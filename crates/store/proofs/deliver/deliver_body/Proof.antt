@@ -1,6 +1,6 @@
 use borrow.Author.Needs.{needs}
 use Rattle.lists.specs.Tests.{cases}
-use Rattle.store.specs.Deliver.{bodyNumber, bodyWords}
+use Rattle.store.specs.Deliver.{bodyNumber}
 use Rattle.store.proofs.deliver.deliver_body.Statement.{statement}
 use Rattle.store.proofs.deliver.deliver_body.Tie as tie
 
@@ -29,19 +29,19 @@ store-requires-2 : tie.Need-store-requires-2
 store-requires-2 c κs = search needs
 
 returns : tie.Need-returns
-unfolding bodyNumber bodyWords
+unfolding bodyNumber
 returns c = (rw (c .before .before .enum-told .given .1) (c .deliver-read .ensures .0), rw (c .before .before .enum-told .given .1) (c .deliver-read .ensures .1))
 
 returns-2 : tie.Need-returns-2
-unfolding bodyNumber bodyWords
+unfolding bodyNumber
 returns-2 c = (rw (c .before .before .before .body .given .1) (c .store .ensures), rw (c .before .before .before .body .given .1))
 
 returns-3 : tie.Need-returns-3
-unfolding bodyNumber bodyWords
+unfolding bodyNumber
 returns-3 c = (rw (c .before .before .before .body2 .given .1) (c .deliver-update .ensures .0), rw (c .before .before .before .body2 .given .1) (c .deliver-update .ensures .1))
 
 returns-4 : tie.Need-returns-4
-unfolding bodyNumber bodyWords
+unfolding bodyNumber
 returns-4 c = (rw (c .before .before .before .body3 .given .1) (c .store2 .ensures), rw (c .before .before .before .body3 .given .1))
 
 pub deliver-body-spec : {M : Type 1} → statement M

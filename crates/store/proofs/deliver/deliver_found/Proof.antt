@@ -1,6 +1,6 @@
 use borrow.Author.Needs.{needs}
 use Rattle.lists.specs.Tests.{cases}
-use Rattle.store.specs.Deliver.{foundNumber, foundWords}
+use Rattle.store.specs.Deliver.{foundNumber}
 use Rattle.store.proofs.deliver.deliver_found.Statement.{statement}
 use Rattle.store.proofs.deliver.deliver_found.Tie as tie
 
@@ -17,15 +17,15 @@ enum-told-2 : tie.Need-enum-told-2
 enum-told-2 c = search needs
 
 returns : tie.Need-returns
-unfolding foundNumber foundWords
+unfolding foundNumber
 returns c = (rw (c .before .before .before .found .given .1) (c .deliver-message .ensures .0), rw (c .before .before .before .found .given .1) (c .deliver-message .ensures .1))
 
 returns-2 : tie.Need-returns-2
-unfolding foundNumber foundWords
+unfolding foundNumber
 returns-2 c = (rw (c .enum-told .given .1), rw (c .enum-told .given .1))
 
 returns-3 : tie.Need-returns-3
-unfolding foundNumber foundWords
+unfolding foundNumber
 returns-3 c = (rw (c .enum-told2 .given .1), rw (c .enum-told2 .given .1))
 
 pub deliver-found-spec : {M : Type 1} → statement M

@@ -1,5 +1,5 @@
 use Rattle.lists.specs.Tests.{cases}
-use Rattle.store.specs.Perform.{performNumber, performWords}
+use Rattle.store.specs.Perform.{performNumber}
 use borrow.Author.Needs.{needs}
 use Rattle.store.proofs.perform.perform.Statement.{statement}
 use Rattle.store.proofs.perform.perform.Tie as tie
@@ -15,7 +15,7 @@ perform-doing-requires : tie.Need-perform-doing-requires
 perform-doing-requires c κs = search needs
 
 returns : tie.Need-returns
-unfolding performNumber performWords
+unfolding performNumber
 returns c = (rw (← (c .before .before .load .ensures)) (c .perform-doing .ensures .0), rw (← (c .before .before .load .ensures)) (c .perform-doing .ensures .1))
 
 pub perform-spec : {M : Type 1} → statement M

@@ -1,5 +1,5 @@
 use Rattle.lists.specs.Tests.{cases}
-use Rattle.store.specs.Perform.{performNumberOf, performWordsOf}
+use Rattle.store.specs.Perform.{performNumberOf}
 use borrow.Author.Needs.{needs}
 use Rattle.store.proofs.perform.perform_doing.Statement.{statement}
 use Rattle.store.proofs.perform.perform_doing.Tie as tie
@@ -33,27 +33,27 @@ enum-told-4 : tie.Need-enum-told-4
 enum-told-4 c = search needs
 
 returns : tie.Need-returns
-unfolding performNumberOf performWordsOf
+unfolding performNumberOf
 returns c = (rw (c .enum-told .given .1), rw (c .enum-told .given .1))
 
 returns-2 : tie.Need-returns-2
-unfolding performNumberOf performWordsOf
+unfolding performNumberOf
 returns-2 c = (rw (c .before .before .before .doing .given .1) (c .perform-read .ensures .0), rw (c .before .before .before .doing .given .1) (c .perform-read .ensures .1))
 
 returns-3 : tie.Need-returns-3
-unfolding performNumberOf performWordsOf
+unfolding performNumberOf
 returns-3 c = (rw (c .before .before .before .doing2 .given .1) (c .perform-update .ensures .0), rw (c .before .before .before .doing2 .given .1) (c .perform-update .ensures .1))
 
 returns-4 : tie.Need-returns-4
-unfolding performNumberOf performWordsOf
+unfolding performNumberOf
 returns-4 c = (rw (c .enum-told2 .given .1), rw (c .enum-told2 .given .1))
 
 returns-5 : tie.Need-returns-5
-unfolding performNumberOf performWordsOf
+unfolding performNumberOf
 returns-5 c = (rw (c .enum-told3 .given .1), rw (c .enum-told3 .given .1))
 
 returns-6 : tie.Need-returns-6
-unfolding performNumberOf performWordsOf
+unfolding performNumberOf
 returns-6 c = (rw (c .enum-told4 .given .1), rw (c .enum-told4 .given .1))
 
 pub perform-doing-spec : {M : Type 1} → statement M

@@ -1,7 +1,7 @@
 use borrow.Author.Tests.{not-true, not-false}
 use mathlib.Core.Path.{_≡_, sym, _∙_}
 use Rattle.lists.specs.Tests.{cases}
-use Rattle.store.specs.Perform.{performReadNumber, performReadWords}
+use Rattle.store.specs.Perform.{performReadNumber}
 use borrow.Author.Needs.{needs}
 use Rattle.store.proofs.perform.perform_read.Statement.{statement}
 use Rattle.store.proofs.perform.perform_read.Tie as tie
@@ -19,7 +19,7 @@ holds-requires : tie.Need-holds-requires
 holds-requires c κs = search needs
 
 returns : tie.Need-returns
-unfolding performReadNumber performReadWords
+unfolding performReadNumber
 returns c = let z = rw (c .before .before .before .home .ensures) at (sym (c .before .holds .ensures) ∙ not-true _ (c .if1 .taken)) in (simp z, simp z)
 
 copy-requires : tie.Need-copy-requires
@@ -29,7 +29,7 @@ store-requires : tie.Need-store-requires
 store-requires c κs = search needs
 
 returns-2 : tie.Need-returns-2
-unfolding performReadNumber performReadWords
+unfolding performReadNumber
 returns-2 c = let z = rw (c .before .before .before .before .before .before .before .home .ensures) at (sym (c .before .before .before .before .before .holds .ensures) ∙ not-false _ (c .before .before .before .before .if1 .left)) in (simp (z, c .store .ensures, c .before .before .copy .ensures, c .before .before .before .before .before .before .before .home .ensures), simp z)
 
 pub perform-read-spec : {M : Type 1} → statement M

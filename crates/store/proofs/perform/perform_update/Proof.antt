@@ -1,7 +1,7 @@
 use borrow.Author.Tests.{not-true, not-false}
 use mathlib.Core.Path.{_≡_, sym, _∙_}
 use Rattle.lists.specs.Tests.{cases}
-use Rattle.store.specs.Perform.{performUpdateNumber, performUpdateWords}
+use Rattle.store.specs.Perform.{performUpdateNumber}
 use borrow.Author.Needs.{needs}
 use Rattle.store.proofs.perform.perform_update.Statement.{statement}
 use Rattle.store.proofs.perform.perform_update.Tie as tie
@@ -19,7 +19,7 @@ alone-requires : tie.Need-alone-requires
 alone-requires c κs = search needs
 
 returns : tie.Need-returns
-unfolding performUpdateNumber performUpdateWords
+unfolding performUpdateNumber
 returns c = let z = rw (c .before .before .before .home .ensures) at (sym (c .before .alone .ensures) ∙ not-true _ (c .if1 .taken)) in (simp z, simp z)
 
 update-copy-requires : tie.Need-update-copy-requires
@@ -29,7 +29,7 @@ store-requires : tie.Need-store-requires
 store-requires c κs = search needs
 
 returns-2 : tie.Need-returns-2
-unfolding performUpdateNumber performUpdateWords
+unfolding performUpdateNumber
 returns-2 c = let z = rw (c .before .before .before .before .before .before .before .home .ensures) at (sym (c .before .before .before .before .before .alone .ensures) ∙ not-false _ (c .before .before .before .before .if1 .left)) in (simp (z, c .store .ensures, c .before .before .update-copy .ensures .0, c .before .before .update-copy .ensures .1, c .before .before .before .before .before .before .before .home .ensures), simp z)
 
 pub perform-update-spec : {M : Type 1} → statement M

@@ -1,5 +1,4 @@
 use borrow.Author.Needs.{needs}
-use Rattle.store.specs.Step.{advanced}
 use Rattle.store.proofs.steps.advance.Statement.{statement}
 use Rattle.store.proofs.steps.advance.Tie as tie
 
@@ -10,7 +9,6 @@ take-requires : tie.Need-take-requires
 take-requires c κs = search needs
 
 returns : tie.Need-returns
-unfolding advanced
 returns c = let e = c .before .before .before .decode .ensures in (rw (← e) (c .take .ensures .0), (rw (← e) (c .take .ensures .1 .0), rw (← e) (c .take .ensures .1 .1)))
 
 pub advance-spec : {M : Type 1} → statement M

@@ -1,5 +1,4 @@
 use borrow.Author.Needs.{needs}
-use Rattle.store.specs.Step.{taken}
 use Rattle.store.proofs.steps.take.Statement.{statement}
 use Rattle.store.proofs.steps.take.Tie as tie
 
@@ -103,47 +102,36 @@ bare-requires-10 : tie.Need-bare-requires-10
 bare-requires-10 c κs = search needs
 
 returns : tie.Need-returns
-unfolding taken
 returns c = (rw (c .before .before .before .before .command .given .1) (c .before .request .ensures .0), (rw (c .before .before .before .before .command .given .1), rw (c .before .before .before .before .command .given .1, ← (c .before .request .ensures .1)) (c .bare .ensures)))
 
 returns-2 : tie.Need-returns-2
-unfolding taken
 returns-2 c = (rw (c .before .before .before .before .command2 .given .1) (c .before .request2 .ensures .0), (rw (c .before .before .before .before .command2 .given .1), rw (c .before .before .before .before .command2 .given .1, ← (c .before .request2 .ensures .1)) (c .bare2 .ensures)))
 
 returns-3 : tie.Need-returns-3
-unfolding taken
 returns-3 c = (rw (c .before .before .before .before .command3 .given .1) (c .before .perform .ensures .0), (rw (c .before .before .before .before .command3 .given .1), rw (c .before .before .before .before .command3 .given .1, ← (c .before .perform .ensures .1)) (c .bare3 .ensures)))
 
 returns-4 : tie.Need-returns-4
-unfolding taken
 returns-4 c = (rw (c .before .before .before .before .command4 .given .1) (c .before .send-read .ensures .0), (rw (c .before .before .before .before .command4 .given .1), rw (c .before .before .before .before .command4 .given .1, ← (c .before .send-read .ensures .1)) (c .bare4 .ensures)))
 
 returns-5 : tie.Need-returns-5
-unfolding taken
 returns-5 c = (rw (c .before .before .before .before .command5 .given .1) (c .before .send-update .ensures .0), (rw (c .before .before .before .before .command5 .given .1), rw (c .before .before .before .before .command5 .given .1, ← (c .before .send-update .ensures .1)) (c .bare5 .ensures)))
 
 returns-6 : tie.Need-returns-6
-unfolding taken
 returns-6 c = (rw (c .before .before .before .before .before .command6 .given .1) (c .before .dispatch .ensures .0), (rw (c .before .before .before .before .before .command6 .given .1) (c .before .dispatch .ensures .1 .0), rw (c .before .before .before .before .before .command6 .given .1, ← (c .before .dispatch .ensures .1 .1)) (c .bare6 .ensures)))
 
 returns-7 : tie.Need-returns-7
-unfolding taken
 returns-7 c = (rw (c .before .before .before .before .before .command7 .given .1), (rw (c .before .before .before .before .before .command7 .given .1) (c .before .before .take-broadcast .ensures .0), rw (c .before .before .before .before .before .command7 .given .1, ← (c .before .before .take-broadcast .ensures .1), ← (c .before .number-of .ensures)) (c .bare7 .ensures)))
 
 returns-8 : tie.Need-returns-8
-unfolding taken
 returns-8 c = (rw (c .before .before .before .before .before .command8 .given .1), (rw (c .before .before .before .before .before .command8 .given .1) (c .before .before .take-single .ensures .0), rw (c .before .before .before .before .before .command8 .given .1, ← (c .before .before .take-single .ensures .1), ← (c .before .number-of2 .ensures)) (c .bare8 .ensures)))
 
 returns-9 : tie.Need-returns-9
-unfolding taken
 returns-9 c = (rw (c .before .before .before .before .before .command9 .given .1) (c .before .deliver .ensures .0), (rw (c .before .before .before .before .before .command9 .given .1) (c .before .deliver .ensures .1 .0), rw (c .before .before .before .before .before .command9 .given .1, ← (c .before .deliver .ensures .1 .1)) (c .bare9 .ensures)))
 
 returns-10 : tie.Need-returns-10
-unfolding taken
 returns-10 c = (rw (c .before .before .before .command10 .given .1) (c .report .ensures .0), (rw (c .before .before .before .command10 .given .1), rw (c .before .before .before .command10 .given .1) (c .report .ensures .1)))
 
 returns-11 : tie.Need-returns-11
-unfolding taken
 returns-11 c = (rw (c .before .before .command11 .given .1), (rw (c .before .before .command11 .given .1), rw (c .before .before .command11 .given .1) (c .bare10 .ensures)))
 
 pub take-spec : {M : Type 1} → statement M

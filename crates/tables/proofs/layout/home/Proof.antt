@@ -1,5 +1,4 @@
 use mathlib.Core.Path.{_∙_}
-use Rattle.tables.specs.Layout.{homeOf}
 use borrow.Author.Needs.{needs}
 use Rattle.tables.proofs.layout.home.Statement.{statement}
 use Rattle.tables.proofs.layout.home.Tie as tie
@@ -23,7 +22,6 @@ home-in-requires : tie.Need-home-in-requires
 home-in-requires c κs = search needs
 
 returns : tie.Need-returns
-unfolding homeOf
 returns c = rw (← (c .before .before .task-place .ensures .0)) (c .home-in .ensures .0)
 
 pub home-spec : {M : Type 1} → statement M

@@ -1,5 +1,4 @@
 use Rattle.lists.specs.Tests.{cases}
-use Rattle.tables.specs.Outbox.{outCountOf}
 use borrow.Author.Needs.{needs}
 use Rattle.tables.proofs.outbox.count.Statement.{statement}
 use Rattle.tables.proofs.outbox.count.Tie as tie
@@ -26,7 +25,6 @@ element-copy-out-result : tie.Need-element-copy-out-result
 element-copy-out-result c = search needs
 
 returns : tie.Need-returns
-unfolding outCountOf
 returns c = rw (← (c .before .card-place .ensures .0))
 
 pub count-spec : {M : Type 1} → statement M
