@@ -51,7 +51,7 @@ def taken(text):
 
 
 def turned(name):
-    return re.sub(r"(?<=.)[A-Z]", lambda it: "_" + it[0].lower(), name.replace("-", "_"))
+    return re.sub(r"(?<=[^-])[A-Z]", lambda it: "_" + it[0].lower(), name).replace("-", "_")
 
 
 def is_old(name):

@@ -7,10 +7,9 @@ use Prim.Native.Nat.{ℕ, suc}
 use lib.ListN.{length}
 use Rattle.lists.specs.Histories.{Any, any_nil, here, there}
 use Rattle.lists.specs.Places.{nth}
-use Rattle.automaton.specs.Mail.{Mail}
 use Rattle.automaton.specs.State.{Tagged, ChannelState, initial_channel, ChannelAction, channel_step}
 use Rattle.automaton.specs.Network.{Network}
-use Rattle.automaton.specs.Automaton.{Step, rest, Mcasts, Joins, Chan, chan, ChannelExecution}
+use Rattle.automaton.specs.Automaton.{Step, rest, Mcasts, Joins, chan, ChannelExecution}
 use Rattle.automaton.specs.Trace.{steps}
 use Rattle.automaton.proofs.Counts.{mark_on}
 use Rattle.automaton.proofs.Joining.{join_can}
@@ -47,7 +46,7 @@ module _ {M : Type 0} (N : Network M) where
       f (here x) = q x
       f (there x) = l.unjoined x
 
-  pub joined_mcast : {E : List (Step M)} {m : M} → ChannelExecution N E → Any (Joins m) E → Any (Mcasts m) E
+  pub joined_mcast : {m : M} {E : List (Step M)} → ChannelExecution N E → Any (Joins m) E → Any (Mcasts m) E
   joined_mcast {m = m} v (here {e = e} {E = E} p) = there (join_can N e E m p v.0).1
   joined_mcast v (there h) = there (joined_mcast v.1 h)
 

@@ -13,10 +13,9 @@ use Rattle.lists.specs.Tests.{eqb_refl}
 use Rattle.lists.specs.Histories.{Any, here, there, At, now, before, suf_at, In}
 use Rattle.lists.specs.Queues.{push_old, push_new}
 use Rattle.lists.specs.Places.{nth}
-use Rattle.automaton.specs.Mail.{Mail}
 use Rattle.automaton.specs.State.{Tagged, ChannelState, released, kept, ChannelAction, dispatch, take_broadcast, take_single, deliver, dispatching, taking, landing, arriving, channel_step, ripe}
 use Rattle.automaton.specs.Network.{Network}
-use Rattle.automaton.specs.Automaton.{Step, mcast, take, join, rest, Mcasts, Joins, Chan, chan, ChannelExecution}
+use Rattle.automaton.specs.Automaton.{Step, mcast, take, join, rest, Mcasts, Joins, chan, ChannelExecution}
 use Rattle.automaton.specs.TotalOrder.{epoch}
 use Rattle.automaton.specs.Trace.{joins, steps_take, steps_single, steps_deliver, steps}
 use Rattle.automaton.proofs.Counts.{tag}
@@ -29,6 +28,7 @@ module _ {M : Type 0} (N : Network M) where
   -- a message of a list of joins joins, and no card takes anything meanwhile
   joins_at : (m : M) (l : List M) (E : List (Step M)) → In m l
       → (D : List (Step M)) × At (Joins m) D (joins l E) × ((chan N D).taken ≡ (chan N E).taken)
+  joins_at m [] E x' = elim x' [ ]
   joins_at m (a ∷ l) E (here p) = (E, on l (join a ∷ E) (now {e = join a} p), refl)
     where
       on : {D : List (Step M)} (l : List M) (F : List (Step M)) → At (Joins m) D F → At (Joins m) D (joins l F)

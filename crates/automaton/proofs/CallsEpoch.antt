@@ -7,10 +7,9 @@ use mathlib.Core.Option.{some}
 use Prim.Native.Nat.{ℕ, max}
 use lib.ListN.{length}
 use Rattle.lists.specs.Histories.{Any, At, Suf, stop, back, suf_tail}
-use Rattle.automaton.specs.Mail.{Mail}
 use Rattle.automaton.specs.State.{Tagged, ChannelState, ChannelAction, take_single, channel_step}
 use Rattle.automaton.specs.Network.{Network}
-use Rattle.automaton.specs.Automaton.{Step, Mcasts, Joins, Chan, chan}
+use Rattle.automaton.specs.Automaton.{Step, Mcasts, Joins, chan}
 use Rattle.automaton.specs.TotalOrder.{epoch}
 use Rattle.automaton.specs.Trace.{steps}
 use Rattle.automaton.specs.Calls.{Setup, numbering, done, calls, posted, network, numbered, trace}

@@ -10,7 +10,6 @@ use Rattle.lists.specs.Tests.{and_snd}
 use Rattle.lists.specs.Histories.{Suf, suf_tail}
 use Rattle.automaton.specs.State.{ChannelState, ChannelAction, dispatch, deliver}
 use Rattle.automaton.specs.Refusals.{receive_refusal, channel_refusal}
-use Rattle.automaton.specs.Network.{Network}
 use Rattle.automaton.specs.Automaton.{Step, receive}
 use Rattle.automaton.specs.Trace.{steps_deliver, steps}
 use Rattle.automaton.specs.Calls.{Setup, numbering, done, calls, posted, letter, network, numbered, trace, CallsEvents}

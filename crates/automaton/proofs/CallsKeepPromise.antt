@@ -32,6 +32,7 @@ module _ {M : Type 0} (N : Network ℕ) (w : ChannelState ℕ) (E : List (Step �
   low_take i (some m) k h = go (mcast_joins N (released (suc (w.taken i)) (w.held i)) h)
     where
       go : Any (Mcasts k) (take i m ∷ E) → k < length l
+      go (here x4) = elim x4 [ ]
       go (there x) = low k x
 
   low_single : (o : Option (Tagged ℕ)) (k : ℕ) → Any (Mcasts k) (steps_single N.mail w o E) → k < length l
@@ -39,11 +40,13 @@ module _ {M : Type 0} (N : Network ℕ) (w : ChannelState ℕ) (E : List (Step �
   low_single (some x) k h = go (ripe N.mail w x) h
     where
       go : (t : Bool) → Any (Mcasts k) (cond t (join x.msg ∷ E) E) → k < length l
+      go true (here x5) = elim x5 [ ]
       go true (there y) = low k y
       go false y = low k y
 
   low_deliver : (b : List ℕ) (i k : ℕ) → Any (Mcasts k) (steps_deliver b i E) → k < length l
   low_deliver [] i k h = low k h
+  low_deliver (m ∷ r) i k (here x3) = elim x3 [ ]
   low_deliver (m ∷ r) i k (there h) = low k h
 
   steps_low : (x : ChannelAction M) (k : ℕ) → Any (Mcasts k) (steps N.mail w (numbering (length l) x) E) → k < length (posting x l)

@@ -8,7 +8,6 @@ use native.Mathlib.Omega.{arith}
 use lib.ListN.{length}
 use Rattle.lists.specs.Histories.{Any, At, suf_any, suf_at, at_suf, at_any, any_at, at_length, at_order}
 use Rattle.lists.specs.Keys.{enc, enc_place, enc_time}
-use Rattle.automaton.specs.Mail.{Mail}
 use Rattle.automaton.specs.Network.{Network}
 use Rattle.automaton.specs.Automaton.{Step, mcast, Mcasts, Receives, chan, ChannelExecution, Chan}
 use Rattle.automaton.specs.TotalOrder.{epoch, bound, limit, rank}
@@ -55,6 +54,10 @@ module _ {M : Type 0} (N : Network M) (E : List (Step M)) (v : ChannelExecution 
               later F f = order (at_order x f)
                 where
                   no_both : (e : Step M) → Mcasts m e → Receives m (N.mail.dest m) e → ⊥
+                  no_both (Rattle.automaton.specs.Automaton.take _ _) p q = elim p [ ]
+                  no_both (Rattle.automaton.specs.Automaton.join _) p q = elim p [ ]
+                  no_both (Rattle.automaton.specs.Automaton.receive _ _) p q = elim p [ ]
+                  no_both Rattle.automaton.specs.Automaton.rest p q = elim p [ ]
                   no_both (mcast a) p q = q
 
                   order : ((e : Step M) × Mcasts m e × Receives m (N.mail.dest m) e) ⊎ (At (Mcasts m) B F ⊎ At (Receives m (N.mail.dest m)) F B)

@@ -7,16 +7,23 @@ use mathlib.Core.List.{List, [], ◌∷◌}
 use Prim.Native.Nat.{ℕ, suc, ◌≤◌}
 use native.Mathlib.Omega.{arith}
 use Rattle.lists.specs.Histories.{Any, At, Suf, suf_any, at_any, any_at, now, before, stop, back}
-use Rattle.automaton.specs.Mail.{Mail}
 use Rattle.automaton.specs.Network.{Network}
-use Rattle.automaton.specs.Automaton.{Step, mcast, take, join, receive, rest, Mcasts, Receives, chan, ChannelPrecondition, ChannelExecution, Chan}
+use Rattle.automaton.specs.Automaton.{Step, mcast, take, join, receive, rest, Mcasts, Receives, chan, ChannelPrecondition, ChannelExecution}
 
 -- a step multicasts one message, or receives one
 module _ {M : Type 0} {m n : M} where
   pub mcast_one : (e : Step M) → Mcasts m e → Mcasts n e → m ≡ n
+  mcast_one (take _ _) p q = elim p [ ]
+  mcast_one (join _) p q = elim p [ ]
+  mcast_one (receive _ _) p q = elim p [ ]
+  mcast_one rest p q = elim p [ ]
   mcast_one (mcast a) p q = sym p ∙ q
 
   pub receive_one : (i j : ℕ) (e : Step M) → Receives m i e → Receives n j e → m ≡ n
+  receive_one i j (mcast _) p q = elim p [ ]
+  receive_one i j (take _ _) p q = elim p [ ]
+  receive_one i j (join _) p q = elim p [ ]
+  receive_one i j rest p q = elim p [ ]
   receive_one i j (receive a c) p q = sym p.0 ∙ q.0
 
 module _ {M : Type 0} (N : Network M) where
@@ -65,6 +72,10 @@ module _ {M : Type 0} (N : Network M) where
   tagged B m = cond (N.mail.multi m) (suc (chan N B).made) ((chan N B).taken (N.from m))
 
   pub mark_now : (e : Step M) (E : List (Step M)) (m : M) → Mcasts m e → (chan N (e ∷ E)).mark m ≡ tagged E m
+  mark_now (take _ _) E m p = elim p [ ]
+  mark_now (join _) E m p = elim p [ ]
+  mark_now (receive _ _) E m p = elim p [ ]
+  mark_now rest E m p = elim p [ ]
   mark_now (mcast n) E m p = rw (p, N.eqm_refl m)
 
   pub mark_on : (e : Step M) (E : List (Step M)) (m : M) → ¬ Mcasts m e → (chan N (e ∷ E)).mark m ≡ (chan N E).mark m
@@ -80,9 +91,13 @@ module _ {M : Type 0} (N : Network M) where
   mark_on rest E m q = refl
 
   pub mcast_once : (e : Step M) (E : List (Step M)) (m : M) → ChannelPrecondition N E e → Any (Mcasts m) E → ¬ Mcasts m e
+  mcast_once (take _ _) E m v h p = elim p [ ]
+  mcast_once (join _) E m v h p = elim p [ ]
+  mcast_once (receive _ _) E m v h p = elim p [ ]
+  mcast_once rest E m v h p = elim p [ ]
   mcast_once (mcast n) E m v h p = v (subst (λ a. Any (Mcasts a) E) (sym p) h)
 
-  pub mark_at : {B E : List (Step M)} {m : M} → ChannelExecution N E → At (Mcasts m) B E → (chan N E).mark m ≡ tagged B m
+  pub mark_at : {m : M} {B E : List (Step M)} → ChannelExecution N E → At (Mcasts m) B E → (chan N E).mark m ≡ tagged B m
   mark_at {m = m} v (now {e = e} {E = E} p) = mark_now e E m p
   mark_at {m = m} v (before {e = e} {E = E} q) = mark_on e E m (mcast_once e E m v.0 (at_any q)) ∙ mark_at v.1 q
 
@@ -94,10 +109,14 @@ module _ {M : Type 0} (N : Network M) where
   -- a broadcast's number is one of those made
   pub made_now : (e : Step M) (E : List (Step M)) (m : M) → N.mail.multi m ≡ true → Mcasts m e
       → suc (chan N E).made ≤ (chan N (e ∷ E)).made
+  made_now (take _ _) E m u p = elim p [ ]
+  made_now (join _) E m u p = elim p [ ]
+  made_now (receive _ _) E m u p = elim p [ ]
+  made_now rest E m u p = elim p [ ]
   made_now (mcast n) E m u p = subst (λ t. suc (chan N E).made ≤ cond t (suc (chan N E).made) (chan N E).made)
       (sym (ap N.mail.multi p ∙ u)) (omega arith)
 
-  pub made_at : {B E : List (Step M)} {m : M} → N.mail.multi m ≡ true → At (Mcasts m) B E → suc (chan N B).made ≤ (chan N E).made
+  pub made_at : {m : M} {B E : List (Step M)} → N.mail.multi m ≡ true → At (Mcasts m) B E → suc (chan N B).made ≤ (chan N E).made
   made_at {m = m} u (now {e = e} {E = E} p) = made_now e E m u p
   made_at u (before {e = e} {E = E} q) = let h = made_at u q in let k = made_on e E in omega arith
 

@@ -9,7 +9,7 @@ use Rattle.lists.specs.Histories.{there}
 use Rattle.lists.specs.Queues.{pop}
 use Rattle.automaton.specs.State.{ChannelState, deliver, channel_step}
 use Rattle.automaton.specs.Network.{Network}
-use Rattle.automaton.specs.Automaton.{Step, Chan, ChannelExecution}
+use Rattle.automaton.specs.Automaton.{Step, ChannelExecution}
 use Rattle.automaton.specs.Trace.{steps_deliver}
 use Rattle.automaton.proofs.Agreement.{Kept, Agrees, in_transit_on}
 

@@ -8,11 +8,10 @@ use native.Mathlib.Omega.{arith}
 use lib.ListN.{length}
 use Rattle.lists.specs.Histories.{Any, here, there, In, stop, any_nil}
 use Rattle.lists.specs.Places.{nth}
-use Rattle.automaton.specs.Mail.{Mail}
 use Rattle.automaton.specs.State.{ChannelState}
 use Rattle.automaton.specs.AtRest.{AtRest}
 use Rattle.automaton.specs.Network.{Network}
-use Rattle.automaton.specs.Automaton.{Step, Mcasts, Takes, Receives, Chan, ChannelExecution}
+use Rattle.automaton.specs.Automaton.{Step, Mcasts, Takes, Receives, ChannelExecution}
 use Rattle.automaton.proofs.InboxHistory.{log, gone, queue, gone_receives}
 use Rattle.automaton.proofs.Joining.{takes_log, joins_log}
 use Rattle.automaton.proofs.Integrity.{passed, number_one}

@@ -13,10 +13,9 @@ use lib.ListN.{length, length-append}
 use Rattle.lists.specs.Tests.{cond_cases}
 use Rattle.lists.specs.Histories.{Any, here, there}
 use Rattle.lists.specs.Places.{nth}
-use Rattle.automaton.specs.Mail.{Mail}
 use Rattle.automaton.specs.State.{Tagged, ChannelState, dispatch, dispatching, channel_step, tagging}
 use Rattle.automaton.specs.Network.{Network}
-use Rattle.automaton.specs.Automaton.{Step, mcast, Mcasts, Joins, Chan, chan, ChannelExecution}
+use Rattle.automaton.specs.Automaton.{Step, mcast, Mcasts, Joins, chan, ChannelExecution}
 use Rattle.automaton.proofs.Counts.{mark_on, mark_now}
 use Rattle.automaton.proofs.Held.{Names, names_holds}
 use Rattle.automaton.proofs.Agreement.{InTransit, Agrees, in_transit_on, joined_mcast}
@@ -62,6 +61,7 @@ module _ {M : Type 0} (N : Network M) where
       }
         where
           f : ¬ Any (Joins m) (mcast m ∷ E)
+          f (here x3) = elim x3 [ ]
           f (there h) = fresh (joined_mcast N v h)
 
       go : (t : Bool) → N.mail.multi m ≡ t → Agrees N (dispatching N.mail t w i m) (mcast m ∷ E)

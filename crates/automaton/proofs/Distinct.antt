@@ -7,7 +7,6 @@ use native.Mathlib.Omega.{arith}
 use lib.ListN.{length}
 use Rattle.lists.specs.Histories.{Any, At, any_at, at_one}
 use Rattle.lists.specs.Keys.{enc, enc_inj}
-use Rattle.automaton.specs.Mail.{Mail}
 use Rattle.automaton.specs.Network.{Network}
 use Rattle.automaton.specs.Automaton.{Step, Mcasts, Receives, ChannelExecution}
 use Rattle.automaton.specs.TotalOrder.{epoch, bound, limit, rank}

@@ -9,9 +9,8 @@ use Prim.Native.Nat.{ℕ}
 use Rattle.lists.specs.Tests.{eqb_of}
 use Rattle.lists.specs.Histories.{Any, At, In, any_nil, here, there}
 use Rattle.lists.specs.Queues.{push, pop, push_cases, push_old, push_new, push_append}
-use Rattle.automaton.specs.Mail.{Mail}
 use Rattle.automaton.specs.Network.{Network}
-use Rattle.automaton.specs.Automaton.{Step, mcast, take, join, receive, rest, Receives, chan, ChannelPrecondition, ChannelExecution, Chan}
+use Rattle.automaton.specs.Automaton.{Step, mcast, take, join, receive, rest, Receives, chan, ChannelPrecondition, ChannelExecution}
 use Rattle.automaton.proofs.Counts.{flow}
 
 module _ {M : Type 0} (N : Network M) where
@@ -66,14 +65,22 @@ module _ {M : Type 0} (N : Network M) where
   gone_on rest E m i h = h
 
   pub gone_now : (e : Step M) (E : List (Step M)) (m : M) (i : ℕ) → Receives m i e → In m (gone (e ∷ E) i)
+  gone_now (mcast _) E m i p = elim p [ ]
+  gone_now (take _ _) E m i p = elim p [ ]
+  gone_now (join _) E m i p = elim p [ ]
+  gone_now rest E m i p = elim p [ ]
   gone_now (receive n j) E m i p = subst (λ a. In a (gone (receive n j ∷ E) i)) p.0 (push_new n (gone E i) (eqb_of (sym p.1)))
 
-  pub receives_gone : {E : List (Step M)} {m : M} {i : ℕ} → Any (Receives m i) E → In m (gone E i)
-  receives_gone {m = m} {i} (here {e = e} {E = E} p) = gone_now e E m i p
-  receives_gone {m = m} {i} (there {e = e} {E = E} h) = gone_on e E m i (receives_gone h)
+  pub receives_gone : {i : ℕ} {m : M} {E : List (Step M)} → Any (Receives m i) E → In m (gone E i)
+  receives_gone {i = i} {m = m} (here {e = e} {E = E} p) = gone_now e E m i p
+  receives_gone {i = i} {m = m} (there {e = e} {E = E} h) = gone_on e E m i (receives_gone h)
 
   pub receive_can : (e : Step M) (B : List (Step M)) (m : M) (i : ℕ) → Receives m i e → ChannelPrecondition N B e
       → (r : List M) × ((chan N B).inbox i ≡ m ∷ r)
+  receive_can (mcast _) B m i p c = elim p [ ]
+  receive_can (take _ _) B m i p c = elim p [ ]
+  receive_can (join _) B m i p c = elim p [ ]
+  receive_can rest B m i p c = elim p [ ]
   receive_can (receive n j) B m i p c = (c.0, ap (chan N B).inbox (sym p.1) ∙ c.1 ∙ ap (λ a. a ∷ c.0) p.0)
 
   -- where a message is received, what joined before is gone, and the rest is behind it

@@ -12,9 +12,8 @@ use Rattle.lists.specs.Histories.{At, Suf, suf_at, suf_trans, at_suf, suf_now, s
 use Rattle.lists.specs.Latest.{time, latest_none}
 use Rattle.lists.specs.Keys.{enc, enc_place, enc_time}
 use Rattle.lists.specs.Sorting.{Sorted, push_sorted}
-use Rattle.automaton.specs.Mail.{Mail}
 use Rattle.automaton.specs.Network.{Network}
-use Rattle.automaton.specs.Automaton.{Step, mcast, take, join, receive, rest, Takes, Joins, chan, ChannelExecution, Chan}
+use Rattle.automaton.specs.Automaton.{Step, mcast, take, join, receive, rest, Takes, Joins, chan, ChannelExecution}
 use Rattle.automaton.specs.TotalOrder.{joins?, epoch, bound}
 use Rattle.automaton.proofs.Counts.{flow, flows_suf, taken_suf, mark_suf}
 use Rattle.automaton.proofs.InboxHistory.{log}

@@ -11,9 +11,8 @@ use native.Mathlib.Omega.{arith}
 use Rattle.lists.specs.Tests.{eqb_of, clash}
 use Rattle.lists.specs.Histories.{Any, At, Suf, In, suf_any, at_suf, suf_now, suf_tail, at_any, any_at, at_order, any_left, any_right, here, there, stop}
 use Rattle.lists.specs.Sorting.{Sorted, before_less, apart}
-use Rattle.automaton.specs.Mail.{Mail}
 use Rattle.automaton.specs.Network.{Network}
-use Rattle.automaton.specs.Automaton.{Step, mcast, take, join, receive, rest, Mcasts, Takes, Joins, Receives, chan, ChannelExecution, Chan}
+use Rattle.automaton.specs.Automaton.{Step, mcast, take, join, receive, rest, Mcasts, Takes, Joins, Receives, chan, ChannelExecution}
 use Rattle.automaton.specs.TotalOrder.{epoch}
 use Rattle.automaton.proofs.Counts.{mcast_one, flow, flows_suf, mark_suf, made_at, number, tag}
 use Rattle.automaton.proofs.InboxHistory.{gone, queue, receives_gone, receiving}

@@ -9,10 +9,9 @@ use Prim.Native.Nat.{ℕ, suc, ◌≤◌}
 use Rattle.lists.specs.Histories.{Any, Suf, suf_any, stop, back, suf_trans, In, here, there}
 use Rattle.lists.specs.Queues.{push, Once}
 use Rattle.lists.specs.Places.{nth}
-use Rattle.automaton.specs.Mail.{Mail}
 use Rattle.automaton.specs.State.{Tagged, ChannelState, released, ChannelAction, dispatch, take_broadcast, take_single, deliver, ripe}
 use Rattle.automaton.specs.Network.{Network}
-use Rattle.automaton.specs.Automaton.{Step, take, join, Mcasts, Joins, Chan, chan, ChannelExecution}
+use Rattle.automaton.specs.Automaton.{Step, take, join, Mcasts, Joins, chan, ChannelExecution}
 use Rattle.automaton.specs.Trace.{joins, steps_take, steps_single, steps_deliver, steps}
 
 module _ {M : Type 0} (N : Network M) where
@@ -21,6 +20,7 @@ module _ {M : Type 0} (N : Network M) where
   joins_suf (a ∷ l) E = suf_trans (back stop) (joins_suf l (join a ∷ E))
 
   pub joins_in : (l : List M) (E : List (Step M)) {m : M} → In m l → Any (Joins m) (joins l E)
+  joins_in [] E {m = m} x' = elim x' [ ]
   joins_in (a ∷ l) E (here p) = suf_any (joins_suf l (join a ∷ E)) (here {e = join a} p)
   joins_in (a ∷ l) E (there h) = joins_in l (join a ∷ E) h
 
@@ -34,6 +34,7 @@ module _ {M : Type 0} (N : Network M) where
   mcast_joins (a ∷ l) {E} {m} h = go (mcast_joins l h)
     where
       go : Any (Mcasts m) (join a ∷ E) → Any (Mcasts m) E
+      go (here x4) = elim x4 [ ]
       go (there x) = x
 
   pub joins_joined : (l : List M) {E : List (Step M)} {m : M} → Any (Joins m) (joins l E) → Any (Joins m) E ⊎ In m l

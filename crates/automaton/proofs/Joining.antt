@@ -9,20 +9,27 @@ use Prim.Native.Nat.{ℕ, suc, ◌≤◌}
 use Rattle.lists.specs.Tests.{eqb_of, and_fst, and_snd, and_intro}
 use Rattle.lists.specs.Histories.{Any, At, In, any_nil, suf_any, at_suf, any_right, here, there, now, before}
 use Rattle.lists.specs.Queues.{push_cases, push_old, push_new}
-use Rattle.automaton.specs.Mail.{Mail}
 use Rattle.automaton.specs.Network.{Network}
-use Rattle.automaton.specs.Automaton.{Step, mcast, take, join, receive, rest, Mcasts, Takes, Joins, chan, ChannelPrecondition, ChannelExecution, Chan}
+use Rattle.automaton.specs.Automaton.{Step, mcast, take, join, receive, rest, Mcasts, Takes, Joins, chan, ChannelPrecondition, ChannelExecution}
 use Rattle.automaton.proofs.Counts.{flow}
 use Rattle.automaton.proofs.InboxHistory.{log, gone, queue}
 
 module _ {M : Type 0} (N : Network M) where
   pub join_can : (e : Step M) (B : List (Step M)) (m : M) → Joins m e → ChannelPrecondition N B e
       → (N.mail.multi m ≡ false) × Any (Mcasts m) B × (¬ Any (Joins m) B) × ((chan N B).mark m ≤ (chan N B).taken (N.mail.dest m))
+  join_can (mcast _) B m p c = elim p [ ]
+  join_can (take _ _) B m p c = elim p [ ]
+  join_can (receive _ _) B m p c = elim p [ ]
+  join_can rest B m p c = elim p [ ]
   join_can (join n) B m p c = subst (λ a. (N.mail.multi a ≡ false) × Any (Mcasts a) B × (¬ Any (Joins a) B) ×
       ((chan N B).mark a ≤ (chan N B).taken (N.mail.dest a))) p c
 
   pub take_can : (e : Step M) (B : List (Step M)) (m : M) (i : ℕ) → Takes i m e → ChannelPrecondition N B e
       → (N.mail.multi m ≡ true) × Any (Mcasts m) B × ((chan N B).mark m ≡ suc ((chan N B).taken i))
+  take_can (mcast _) B m i p c = elim p [ ]
+  take_can (join _) B m i p c = elim p [ ]
+  take_can (receive _ _) B m i p c = elim p [ ]
+  take_can rest B m i p c = elim p [ ]
   take_can (take j n) B m i p c =
       subst (λ b. (N.mail.multi m ≡ true) × Any (Mcasts m) B × ((chan N B).mark m ≡ suc ((chan N B).taken b))) p.1
       (subst (λ a. (N.mail.multi a ≡ true) × Any (Mcasts a) B × ((chan N B).mark a ≡ suc ((chan N B).taken j))) p.0 c)
@@ -88,17 +95,25 @@ module _ {M : Type 0} (N : Network M) where
   log_on rest E m i h = h
 
   pub take_log : (e : Step M) (E : List (Step M)) (m : M) (i : ℕ) → N.mail.to m i ≡ true → Takes i m e → In m (log N (e ∷ E) i)
+  take_log (mcast _) E m i t p = elim p [ ]
+  take_log (join _) E m i t p = elim p [ ]
+  take_log (receive _ _) E m i t p = elim p [ ]
+  take_log rest E m i t p = elim p [ ]
   take_log (take j n) E m i t p =
       subst (λ a. In a (log N (take j n ∷ E) i)) p.0
       (push_new n (log N E i) (and_intro (eqb_of (sym p.1)) (ap (N.mail.to n) p.1 ∙ ap (λ a. N.mail.to a i) p.0 ∙ t)))
 
   pub join_log : (e : Step M) (E : List (Step M)) (m : M) (i : ℕ) → N.mail.dest m ≡ i → Joins m e → In m (log N (e ∷ E) i)
+  join_log (mcast _) E m i t p = elim p [ ]
+  join_log (take _ _) E m i t p = elim p [ ]
+  join_log (receive _ _) E m i t p = elim p [ ]
+  join_log rest E m i t p = elim p [ ]
   join_log (join n) E m i t p = subst (λ a. In a (log N (join n ∷ E) i)) p (push_new n (log N E i) (eqb_of (sym (ap N.mail.dest p ∙ t))))
 
-  pub takes_log : {E : List (Step M)} {m : M} {i : ℕ} → N.mail.to m i ≡ true → Any (Takes i m) E → In m (log N E i)
-  takes_log {m = m} {i} t (here {e = e} {E = E} p) = take_log e E m i t p
-  takes_log {m = m} {i} t (there {e = e} {E = E} h) = log_on e E m i (takes_log t h)
+  pub takes_log : {i : ℕ} {m : M} {E : List (Step M)} → N.mail.to m i ≡ true → Any (Takes i m) E → In m (log N E i)
+  takes_log {i = i} {m = m} t (here {e = e} {E = E} p) = take_log e E m i t p
+  takes_log {i = i} {m = m} t (there {e = e} {E = E} h) = log_on e E m i (takes_log t h)
 
-  pub joins_log : {E : List (Step M)} {m : M} {i : ℕ} → N.mail.dest m ≡ i → Any (Joins m) E → In m (log N E i)
+  pub joins_log : {m : M} {E : List (Step M)} {i : ℕ} → N.mail.dest m ≡ i → Any (Joins m) E → In m (log N E i)
   joins_log {m = m} {i} t (here {e = e} {E = E} p) = join_log e E m i t p
   joins_log {m = m} {i} t (there {e = e} {E = E} h) = log_on e E m i (joins_log t h)

@@ -5,7 +5,6 @@ use mathlib.Core.List.{List}
 use Prim.Native.Nat.{ℕ}
 use Rattle.lists.specs.Histories.{Any, any_map, any_split, at_map, at_split}
 use Rattle.multicast.specs.Promise.{IsMcast, McastFrom, McastTo, IsReceive, Promise}
-use Rattle.automaton.specs.Mail.{Mail}
 use Rattle.automaton.specs.Network.{Network}
 use Rattle.automaton.specs.Automaton.{Step, mcast, take, join, receive, rest, Mcasts, Receives, ChannelExecution, external}
 use Rattle.automaton.specs.TotalOrder.{rank}

@@ -13,7 +13,6 @@ use Rattle.lists.specs.Tests.{eqb_of, clash}
 use Rattle.lists.specs.Histories.{Any, Suf, stop, back, suf_trans, any_map, here, there, In, any_nil, any_left, any_right, suf_any}
 use Rattle.lists.specs.Queues.{push, push_old, push_new}
 use Rattle.lists.specs.Places.{nth}
-use Rattle.automaton.specs.Mail.{Mail}
 use Rattle.automaton.specs.State.{Tagged, ChannelState, initial_channel, released, kept, ChannelAction, dispatch, take_broadcast, take_single, deliver, dispatching, taking, landing, arriving, channel_step, ripe, tagging}
 use Rattle.automaton.specs.Refusals.{broadcast_refusal, flight_refusal, channel_refusal}
 use Rattle.automaton.specs.Network.{Network}
@@ -89,6 +88,7 @@ module _ {M : Type 0} (N : Network M) where
         was m h = go (mcast_joins N (released (suc (w.taken i)) (w.held i)) h)
           where
             go : Any (Mcasts m) (take i n ∷ E) → Any (Mcasts m) E
+            go (here x3) = elim x3 [ ]
             go (there x) = x
 
         b : (m : M) (t : Bool) → eqb (N.mail.dest m) i ≡ t → OnWay m (w.flight (N.mail.task m)) (w.held (N.mail.dest m)) E
@@ -121,6 +121,7 @@ module _ {M : Type 0} (N : Network M) where
     land_safe c x f true = record { stands = λ m e h. s.stands m e (was m h); comes = λ m e h. b m (eqb (N.mail.task m) c) refl (s.comes m e (was m h)) }
       where
         was : (m : M) → Any (Mcasts m) (join x.msg ∷ E) → Any (Mcasts m) E
+        was m (here x4) = elim x4 [ ]
         was m (there h) = h
 
         b : (m : M) (t : Bool) → eqb (N.mail.task m) c ≡ t → OnWay m (w.flight (N.mail.task m)) (w.held (N.mail.dest m)) E
@@ -149,6 +150,7 @@ module _ {M : Type 0} (N : Network M) where
     deliver_safe i (n ∷ r) = record { stands = λ m e h. s.stands m e (was m h); comes = λ m e h. on (back stop) (s.comes m e (was m h)) }
       where
         was : (m : M) → Any (Mcasts m) (receive n i ∷ E) → Any (Mcasts m) E
+        was m (here x3) = elim x3 [ ]
         was m (there h) = h
 
     -- an operation that is not refused loses nothing

@@ -8,11 +8,10 @@ use native.Mathlib.Omega.{arith}
 use lib.ListN.{length}
 use Rattle.lists.specs.Histories.{Any, At, In, suf_at, suf_trans, at_suf, at_any, at_length, any_right, here}
 use Rattle.lists.specs.Latest.{time, time_below, latest_at, latest_none}
-use Rattle.lists.specs.Keys.{enc, enc_place, enc_time, enc_le, place_le, place_lt, less}
+use Rattle.lists.specs.Keys.{enc, enc_place, enc_time, enc_le, place_le, place_lt}
 use Rattle.lists.specs.Sorting.{Sorted, before_less}
-use Rattle.automaton.specs.Mail.{Mail}
 use Rattle.automaton.specs.Network.{Network}
-use Rattle.automaton.specs.Automaton.{Step, Mcasts, Receives, chan, ChannelExecution, Chan}
+use Rattle.automaton.specs.Automaton.{Step, Mcasts, Receives, chan, ChannelExecution}
 use Rattle.automaton.specs.TotalOrder.{mcasts?, joins?, receives?, epoch, rank_single, bound, limit, rank}
 use Rattle.automaton.proofs.Counts.{flow, flows_suf, made_suf, taken_suf, mark_suf, taken_made}
 use Rattle.automaton.proofs.InboxHistory.{log, gone, receives_gone, receiving}

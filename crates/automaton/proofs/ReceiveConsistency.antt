@@ -11,9 +11,8 @@ use Rattle.lists.specs.Histories.{Any, At, In, at_suf, at_any, any_at, at_order}
 use Rattle.lists.specs.Latest.{time}
 use Rattle.lists.specs.Keys.{enc, enc_place, enc_time, place_le}
 use Rattle.lists.specs.Sorting.{Sorted, less_before}
-use Rattle.automaton.specs.Mail.{Mail}
 use Rattle.automaton.specs.Network.{Network}
-use Rattle.automaton.specs.Automaton.{Step, Mcasts, Receives, chan, ChannelExecution, Chan}
+use Rattle.automaton.specs.Automaton.{Step, Mcasts, Receives, chan, ChannelExecution}
 use Rattle.automaton.specs.TotalOrder.{joins?, epoch, bound, limit, rank}
 use Rattle.automaton.proofs.Counts.{receive_one, number}
 use Rattle.automaton.proofs.InboxHistory.{log, gone, gone_receives, receiving}

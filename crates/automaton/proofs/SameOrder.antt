@@ -7,7 +7,6 @@ use native.Mathlib.Decide.{dec_le, dec_lt}
 use native.Mathlib.Omega.{arith}
 use Rattle.lists.specs.Histories.{Any, At, at_suf, at_any, any_at, at_order}
 use Rattle.lists.specs.Keys.{Tri, less, alike, more, tri}
-use Rattle.automaton.specs.Mail.{Mail}
 use Rattle.automaton.specs.Network.{Network}
 use Rattle.automaton.specs.Automaton.{Step, Receives, ChannelExecution}
 use Rattle.automaton.specs.TotalOrder.{epoch, Multi, T, rank, Placed}
@@ -35,24 +34,24 @@ module _ {M : Type 0} (N : Network M) (E : List (Step M)) (v : ChannelExecution 
       let p = passed N E v x.0 (N.mail.dest n) q (at_suf x.1) (omega arith) in
       (p.0, (p.2, p.3), epoch_number N E v p.2 ∙ p.4)
 
-  pub below__t : {m n : M} → Placed N E m → Placed N E n → rank N E m < rank N E n → T N E m n
-  below__t {m} {n} (inl u) (inl w) r = go (tri (epoch N E m) (epoch N E n))
+  pub below_T : {m n : M} → Placed N E m → Placed N E n → rank N E m < rank N E n → T N E m n
+  below_T {m} {n} (inl u) (inl w) r = go (tri (epoch N E m) (epoch N E n))
     where
       go : Tri (epoch N E m) (epoch N E n) → T N E m n
       go (less h) = O.multi_multi u w h
       go (alike h) = let e = ap (rank N E) (number_one N E v u.0 w.0 u.1 w.1 (sym (epoch_number N E v u.0) ∙ h ∙ epoch_number N E v w.0)) in absurd (omega arith)
       go (more h) = let k = multi_multi N E v w.0 u.0 h in absurd (omega arith)
-  below__t {m} {n} (inl u) (inr w) r = go (dec_le (epoch N E m) (epoch N E n))
+  below_T {m} {n} (inl u) (inr w) r = go (dec_le (epoch N E m) (epoch N E n))
     where
       go : Dec (epoch N E m ≤ epoch N E n) → T N E m n
       go (yes h) = O.multi_single u w h
       go (no h) = let k = single_multi N E v w.0 (any_at w.1).1 u.0 (omega arith) in absurd (omega arith)
-  below__t {m} {n} (inr u) (inl w) r = go (dec_lt (epoch N E m) (epoch N E n))
+  below_T {m} {n} (inr u) (inl w) r = go (dec_lt (epoch N E m) (epoch N E n))
     where
       go : Dec (epoch N E m < epoch N E n) → T N E m n
       go (yes h) = O.single_multi u w h
       go (no h) = let k = multi_single N E v w.0 u.0 (any_at u.1).1 (omega arith) in absurd (omega arith)
-  below__t {m} {n} (inr u) (inr w) r = go (tri (epoch N E m) (epoch N E n))
+  below_T {m} {n} (inr u) (inr w) r = go (tri (epoch N E m) (epoch N E n))
     where
       x : (B : List (Step M)) × At (Receives m (N.mail.dest m)) B E
       x = any_at u.1

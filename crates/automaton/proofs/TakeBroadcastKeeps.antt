@@ -12,10 +12,9 @@ use Rattle.lists.specs.Tests.{eqb_refl, eqb_of, clash, cond_cases}
 use Rattle.lists.specs.Histories.{Any, In, there}
 use Rattle.lists.specs.Queues.{push}
 use Rattle.lists.specs.Places.{nth}
-use Rattle.automaton.specs.Mail.{Mail}
 use Rattle.automaton.specs.State.{Tagged, ChannelState, released, kept, take_broadcast, taking}
 use Rattle.automaton.specs.Network.{Network}
-use Rattle.automaton.specs.Automaton.{Step, take, Mcasts, Joins, Chan, chan, ChannelPrecondition, ChannelExecution}
+use Rattle.automaton.specs.Automaton.{Step, take, Mcasts, Joins, chan, ChannelPrecondition, ChannelExecution}
 use Rattle.automaton.specs.Trace.{joins, steps_take}
 use Rattle.automaton.proofs.Held.{Holds, Names, Distinct, released_in, holds_names, names_holds, released_once, kept_in, kept_distinct}
 use Rattle.automaton.proofs.Agreement.{Kept, InTransit, Agrees}
@@ -69,6 +68,7 @@ module _ {M : Type 0} (N : Network M) where
           }
             where
               f : Any (Joins x) (take i m ∷ E) ⊎ In x rel → ⊥
+              f (inl (Rattle.lists.specs.Histories.here x6)) = elim x6 [ ]
               f (inl (there h)) = l.unjoined h
               f (inr h) = q h
 
@@ -107,6 +107,7 @@ module _ {M : Type 0} (N : Network M) where
               l = (fit x h).0
 
               un : ¬ Any (Joins x) (take i m ∷ E)
+              un (Rattle.lists.specs.Histories.here x5) = elim x5 [ ]
               un (there y) = l.unjoined y
 
               le : (chan N E).mark x ≤ cond (eqb (N.mail.dest x) i) (suc ((chan N E).taken (N.mail.dest x))) ((chan N E).taken (N.mail.dest x))

@@ -11,10 +11,9 @@ use native.Mathlib.Omega.{arith}
 use Rattle.lists.specs.Tests.{eqb_of, clash, cond_cases}
 use Rattle.lists.specs.Histories.{Any, there}
 use Rattle.lists.specs.Queues.{push, push_any}
-use Rattle.automaton.specs.Mail.{Mail}
 use Rattle.automaton.specs.State.{Tagged, ChannelState, take_single, landing, arriving, ripe}
 use Rattle.automaton.specs.Network.{Network}
-use Rattle.automaton.specs.Automaton.{Step, join, Chan, ChannelPrecondition, ChannelExecution}
+use Rattle.automaton.specs.Automaton.{Step, join, ChannelPrecondition, ChannelExecution}
 use Rattle.automaton.specs.Trace.{steps_single}
 use Rattle.automaton.proofs.Held.{Holds, Names, holds_names, push_distinct}
 use Rattle.automaton.proofs.Agreement.{Kept, InTransit, Agrees, in_transit_on}

@@ -5,7 +5,6 @@ use Rattle.std.specs.Prelude.{◌≡◌, true, false, cond, ◌&&◌, List, [], 
 use Rattle.lists.specs.Histories.{Any}
 use Rattle.lists.specs.Queues.{push, pop}
 use Rattle.multicast.specs.Promise.{Act, other}
-use Rattle.automaton.specs.Mail.{Mail}
 use Rattle.automaton.specs.Network.{Network}
 
 pub data Step (M : Type 0) : Type 0 where

@@ -1,5 +1,5 @@
 -- Which operation of the channel is refused, and with which number: 31 to 35, then 6 for the outcome (RULES 8.2, 8.5, 8.8). 0: it is done.
-use Rattle.std.specs.Prelude.{ℕ, suc, ◌+◌, Bool, true, false, cond, ◌&&◌, List, [], ◌∷◌, ◌++◌, leb, ltb, length}
+use Rattle.std.specs.Prelude.{ℕ, suc, Bool, true, false, cond, ◌&&◌, List, [], ◌∷◌, ◌++◌, leb, ltb, length}
 use Rattle.std.proofs.Math.Option.{Option, none, some}
 use Rattle.lists.specs.Every.{each}
 use Rattle.lists.specs.Filters.{filter}

@@ -4,9 +4,8 @@ use Rattle.std.specs.Prelude.{◌≡◌, ◌⊎◌, Bool, true, false, cond, ◌
 use Rattle.lists.specs.Histories.{Any, At}
 use Rattle.lists.specs.Latest.{latest, time}
 use Rattle.lists.specs.Keys.{enc}
-use Rattle.automaton.specs.Mail.{Mail}
 use Rattle.automaton.specs.Network.{Network}
-use Rattle.automaton.specs.Automaton.{Step, mcast, take, join, receive, rest, Mcasts, Receives, Chan, chan}
+use Rattle.automaton.specs.Automaton.{Step, mcast, take, join, receive, rest, Mcasts, Receives, chan}
 
 -- the rank of a message with one destination, by its epoch, the time of its multicast, and the time of its receive event (0 if there is none)
 abbrev pub rank_single : ℕ → ℕ → ℕ → ℕ → ℕ → ℕ

@@ -10,7 +10,6 @@ use borrow.Author.Tests.{ltb-true}
 use lib.Dec.{eqb, ltb}
 use lib.ListN.{length}
 use Rattle.lists.specs.Every.{each, each_cong}
-use Rattle.lists.specs.Tests.{and_fst}
 use Rattle.names.specs.declared.Card.{Card}
 use Rattle.names.specs.declared.Message.{Message}
 use Rattle.names.specs.declared.Letter.{Letter}
@@ -19,7 +18,7 @@ use Rattle.automaton.specs.State.{Tagged, ChannelState, dispatching}
 use Rattle.automaton.specs.Refusals.{otherwise, broadcast_refusal, flight_refusal, dispatch_refusal}
 use Rattle.automaton.specs.MostBehind.{keeps_up}
 use Rattle.automaton.proofs.RefusalsSmall.{otherwise_small, cond_small, flight_small, broadcast_small}
-use Rattle.channel.specs.Layout.{cards_of, tasks_of, made_of, taken_of, flight_block}
+use Rattle.channel.specs.Layout.{cards_of, made_of, taken_of, flight_block}
 use Rattle.names.specs.CardSet.{several}
 use Rattle.channel.specs.Letters.{fits}
 use Rattle.channel.specs.Answers.{answer_number, is_done}

@@ -1,6 +1,6 @@
 -- What a layer above may rely on, in the words of the definitions that the functions' contracts cite. With OfferedCalls, the only laws of
 -- this crate that it may cite; so laws from inside are offered here by name.
-use Prim.Native.Nat.{ℕ, zero, suc, ◌+◌, ◌<◌, ◌≤◌}
+use Prim.Native.Nat.{ℕ, zero, suc, ◌+◌, ◌<◌}
 use mathlib.Core.Path.{◌≡◌, refl, ◌∙◌}
 use mathlib.Core.Bool.{true}
 use mathlib.Core.List.{List, [], ◌∷◌}

@@ -1,5 +1,5 @@
 -- Well-sizedness, place by place, and where only some words change.
-use Prim.Native.Nat.{ℕ, ◌+◌, ◌-◌, ◌*◌, ◌%◌, ◌<◌, ◌≤◌, min}
+use Prim.Native.Nat.{ℕ, ◌+◌, ◌-◌, ◌%◌, ◌<◌, ◌≤◌, min}
 use mathlib.Core.Path.{◌≡◌, ap, ◌∙◌}
 use mathlib.Core.Bool.{true}
 use mathlib.Core.List.{List}
@@ -16,7 +16,7 @@ use Rattle.names.specs.declared.Packet.{Packet}
 use Rattle.automaton.specs.MostBehind.{most_behind, keeps_up}
 use Rattle.automaton.proofs.KeepsUp.{keeps_up_lem, kept_up}
 use Rattle.channel.specs.Layout.{taken_word, head_word, count_word, held_word, held_block, flight_block, broadcast_block, cards_of, tasks_of, made_of, taken_of, head_of, count_of, held_count_of, place_of}
-use Rattle.names.specs.Letters.{letter_of, packet_at, letter_at}
+use Rattle.names.specs.Letters.{letter_of, packet_at}
 use Rattle.channel.specs.Letters.{addressed, fits}
 use Rattle.channel.specs.TakeSingle.{no_flight}
 use Rattle.channel.specs.Sized.{packet_fits, block_fits, tagged_fits, inbox_fits, held_fits, flight_fits, broadcast_fits, counts_fit, card_fits, first_recent, recent_fits, head_fits, well_sized}

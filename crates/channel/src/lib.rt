@@ -1,5 +1,7 @@
 // The context multicast channel between cards (000 §4 and §6): broadcasts, single messages in flight and held, and inboxes, in one array
 // of words that the caller lends. specs/Layout says where each thing lies.
+#![tactic(auto)]
+
 use names::Message;
 
 mod answers;
@@ -20,7 +22,7 @@ pub use single::take_single;
 pub use sized::well_sized;
 
 // What a call answers; `answer_number` gives the number of each (RULES 5.8, 8.2). `Held` is done too: the single message taken is held.
-#[derive(Drop)]
+#[derive(Clone, Copy)]
 pub enum Answer {
     Done,
     Held,
@@ -36,7 +38,7 @@ pub enum Answer {
 
 // What the numbers in a state are below (RULES 8.6 d to f): cards, sets of present cards, tasks, registers. A check of a whole state reads
 // them once.
-#[derive(Drop)]
+#[derive(Clone, Copy)]
 pub struct Limits {
     pub cards: u32,
     pub sets: u32,
@@ -45,7 +47,7 @@ pub struct Limits {
 }
 
 // What receiving finds; `received_number` gives the number of each (RULES 8.2).
-#[derive(Drop)]
+#[derive(Clone, Copy)]
 pub enum Received {
     Got(Message),
     NoSuchCard,

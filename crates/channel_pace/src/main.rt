@@ -1,5 +1,7 @@
 // Passes a million messages through the channel and writes the sum of what was received: the program whose time is measured against the
 // same work in plain Rust (bench/channel.rs). A round passes two messages in fifteen calls.
+#![tactic(auto)]
+
 use channel::Received;
 use names::{Body, Card, Letter, Message, Packet, Register, Task};
 

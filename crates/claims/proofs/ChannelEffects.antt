@@ -33,7 +33,6 @@ use Rattle.claims.specs.Found.{Letter, delivering, dispatching, done_read, done_
 use Rattle.automaton.specs.State as C
 use Rattle.registers.specs.Layer as R
 use Rattle.claims.specs.Command as K
-use Rattle.claims.specs.Ledger as L
 
 module _ (P : Placement) (ok : placement_refusal P ≡ 0) (ds : List (Action numbers)) where
   abbrev before : Ledger numbers

@@ -18,8 +18,6 @@ use Rattle.lists.specs.Every.{each, each_at}
 use Rattle.lists.specs.Filters.{filter, keep}
 use Rattle.lists.specs.Histories.{In, any_nil, here, there}
 use Rattle.lists.specs.Queues.{pop, push, push_cases}
-use Rattle.claims.proofs.Stable.{hold}
-use Rattle.claims.specs.Published.{mail}
 use Rattle.automaton.specs.State as C
 use Rattle.automaton.specs.MostBehind.{most_behind, keeps_up}
 use Rattle.automaton.proofs.KeepsUp.{kept_up}

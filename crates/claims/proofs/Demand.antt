@@ -7,14 +7,14 @@ use mathlib.Core.Logic.{inl, inr, ◌⊎◌}
 use mathlib.Core.Option.{Option, none, some}
 use mathlib.Core.Path.{ap, refl, subst, sym, ◌∙◌, ◌≡◌}
 use Rattle.lists.specs.Places.{nth}
-use Rattle.automaton.specs.Automaton.{ChannelExecution, rest}
+use Rattle.automaton.specs.Automaton.{ChannelExecution}
 use Rattle.automaton.specs.State.{Tagged, released}
 use Rattle.automaton.specs.TotalOrder.{rank}
 use Rattle.lists.specs.Filters.{Precedes, filter}
 use Rattle.lists.specs.Histories.{Any, In, Suf, here, stop, suf_any, suf_map, there}
 use Rattle.lists.specs.Queues.{Once}
 use Rattle.lists.specs.Made.{make}
-use Rattle.names.specs.Placement.{Placement, copy, placement_refusal, tasks}
+use Rattle.names.specs.Placement.{Placement, copy, placement_refusal}
 use Rattle.registers.proofs.Applied.{applied_in, in_applied}
 use Rattle.registers.proofs.Copies.{shown_applied}
 use Rattle.registers.proofs.Values.{serial_values}
@@ -28,8 +28,6 @@ use Rattle.claims.proofs.Joint.{Joint, both, join, lower, net, promised, take, u
 use Rattle.claims.proofs.LedgerRun.{Sim}
 use Rattle.claims.proofs.LedgerRuns.{sim}
 use Rattle.claims.specs.Ledger.{Action, Ledger, deliver, dispatch, ledger, ledger_mail, perform, report, request, send, take_broadcast, take_single, world}
-use Rattle.claims.specs.Published.{post}
-use Rattle.claims.specs.SerialOrder.{updates}
 use Rattle.registers.specs.Layer as R
 
 module _ {U : Values} (P : Placement) (ok : placement_refusal P ≡ 0) where
@@ -63,6 +61,7 @@ module _ {U : Values} (P : Placement) (ok : placement_refusal P ≡ 0) where
   reports_joined {k} (m ∷ l) E h = go (reports_joined l (join m ∷ E) h)
     where
       go : Any (Reports k) (R.idle ∷ map upper E) → Any (Reports k) (map upper E)
+      go (here x4) = elim x4 [ ]
       go (there x) = x
 
   reports_take : {k : ℕ} (b : Ledger U) (i : ℕ) (o : Option (Msg U)) (E : List (Joint U)) → Any (Reports k) (map upper (trace_take b i o E)) → Any (Reports k) (map upper E)
@@ -70,6 +69,7 @@ module _ {U : Values} (P : Placement) (ok : placement_refusal P ≡ 0) where
   reports_take {k} b i (some m) E h = go (reports_joined (released (suc (b.channel.taken i)) (b.channel.held i)) (take i m ∷ E) h)
     where
       go : Any (Reports k) (R.idle ∷ map upper E) → Any (Reports k) (map upper E)
+      go (here x4) = elim x4 [ ]
       go (there x) = x
 
   reports_land : {k : ℕ} (b : Ledger U) (o : Option (Tagged (Msg U))) (E : List (Joint U)) → Any (Reports k) (map upper (trace_single P b o E)) → Any (Reports k) (map upper E)
@@ -77,10 +77,17 @@ module _ {U : Values} (P : Placement) (ok : placement_refusal P ≡ 0) where
   reports_land {k} b (some x) E h = go (leb x.mark (b.channel.taken ((ledger_mail P b).dest x.msg))) h
     where
       go : (t : Bool) → Any (Reports k) (map upper (cond t (join x.msg ∷ E) E)) → Any (Reports k) (map upper E)
+      go true (here x5) = elim x5 [ ]
       go true (there y) = y
       go false y = y
 
   pub trace_reports : (k : ℕ) (ds : List (Action U)) → Any (Reports k) (map upper (trace P ds)) → Any (IsReport k) ds
+  trace_reports k [] h = elim h [ ]
+  trace_reports k (request o ∷ ds) (here p) = elim p [ ]
+  trace_reports k (perform c j ∷ ds) (here p) = elim p [ ]
+  trace_reports k (send c j i ∷ ds) (here p) = elim p [ ]
+  trace_reports k (dispatch i m ∷ ds) (here p) = elim p [ ]
+  trace_reports k (deliver m i ∷ ds) (here p) = elim p [ ]
   trace_reports k (request o ∷ ds) (there h) = there (trace_reports k ds h)
   trace_reports k (perform c j ∷ ds) (there h) = there (trace_reports k ds h)
   trace_reports k (send c j i ∷ ds) (there h) = there (trace_reports k ds h)
@@ -92,6 +99,13 @@ module _ {U : Values} (P : Placement) (ok : placement_refusal P ≡ 0) where
   trace_reports k (report c j w ∷ ds) (there h) = there (trace_reports k ds h)
 
   is_report_reports : (k : ℕ) (d : Action U) (ds : List (Action U)) → IsReport k d → Any (Reports k) (map upper (trace P (d ∷ ds)))
+  is_report_reports k (request _) ds p = elim p [ ]
+  is_report_reports k (perform _ _) ds p = elim p [ ]
+  is_report_reports k (send _ _ _) ds p = elim p [ ]
+  is_report_reports k (dispatch _ _) ds p = elim p [ ]
+  is_report_reports k (take_broadcast _) ds p = elim p [ ]
+  is_report_reports k (take_single _) ds p = elim p [ ]
+  is_report_reports k (deliver _ _) ds p = elim p [ ]
   is_report_reports k (report c j w) ds p = here p
 
   trace_reported : {k : ℕ} {ds : List (Action U)} → Any (IsReport k) ds → Any (Reports k) (map upper (trace P ds))
@@ -99,6 +113,13 @@ module _ {U : Values} (P : Placement) (ok : placement_refusal P ≡ 0) where
   trace_reported (there {e = d} {E = ds} h) = suf_any (suf_map upper (trace_step_suf P (ledger P ds) d (trace P ds))) (trace_reported h)
 
   tells_gives : (k : ℕ) (v : U.Val) (d : Action U) (ds : List (Action U)) → Tells k v d → Any (Gives k v) (map upper (trace P (d ∷ ds)))
+  tells_gives k v (request _) ds p = elim p [ ]
+  tells_gives k v (perform _ _) ds p = elim p [ ]
+  tells_gives k v (send _ _ _) ds p = elim p [ ]
+  tells_gives k v (dispatch _ _) ds p = elim p [ ]
+  tells_gives k v (take_broadcast _) ds p = elim p [ ]
+  tells_gives k v (take_single _) ds p = elim p [ ]
+  tells_gives k v (deliver _ _) ds p = elim p [ ]
   tells_gives k v (report c j w) ds p = here p
 
   trace_gives : {k : ℕ} {v : U.Val} {ds : List (Action U)} → Any (Tells k v) ds → Any (Gives k v) (map upper (trace P ds))

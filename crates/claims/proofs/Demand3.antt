@@ -55,6 +55,13 @@ module _ (P : Placement) (ok : placement_refusal P ≡ 0) where
   -- ---- the operations reported in the ledger are those reported at some step
 
   is_report : {k : ℕ} (d : Action unvalued) → Reports k d → (t : ℕ) × (d ≡ Action.report t k tt)
+  is_report {k = k} (L.request _) p = elim p [ ]
+  is_report {k = k} (L.perform _ _) p = elim p [ ]
+  is_report {k = k} (L.send _ _ _) p = elim p [ ]
+  is_report {k = k} (L.dispatch _ _) p = elim p [ ]
+  is_report {k = k} (L.take_broadcast _) p = elim p [ ]
+  is_report {k = k} (L.take_single _) p = elim p [ ]
+  is_report {k = k} (L.deliver _ _) p = elim p [ ]
   is_report (L.report t j w) p = (t, ap (λ a. Action.report t a tt) p)
 
   -- what a step notes
@@ -111,6 +118,13 @@ module _ (P : Placement) (ok : placement_refusal P ≡ 0) where
     same_ops = ap (λ b. b.ops) (sym forgotten)
 
     alike_is : (k : ℕ) (d : Action numbers) → IsReport P ok k d → Reports k (forget_action d)
+    alike_is k (L.request _) p = elim p [ ]
+    alike_is k (L.perform _ _) p = elim p [ ]
+    alike_is k (L.send _ _ _) p = elim p [ ]
+    alike_is k (L.dispatch _ _) p = elim p [ ]
+    alike_is k (L.take_broadcast _) p = elim p [ ]
+    alike_is k (L.take_single _) p = elim p [ ]
+    alike_is k (L.deliver _ _) p = elim p [ ]
     alike_is k (L.report c j w) p = p
 
     reports_without : (k : ℕ) → Any (IsReport P ok k) run → Any (Reports k) (paper P steps)

@@ -14,7 +14,6 @@ use Rattle.names.specs.Placement.{Placement, holders, home, primary}
 use Rattle.registers.specs.Layer.{Values, Msg, asking, done, quiet}
 use Rattle.claims.proofs.Joint.{Joint, join, take}
 use Rattle.claims.specs.Ledger.{Action, Ledger, Op, deliver, dispatch, first, ledger, ledger_mail, no_op, op_at, perform, report, request, send, step, take_broadcast, take_single, world}
-use Rattle.claims.specs.Ledger as L
 
 -- ---- the run of the two layers that a list of actions is
 

@@ -123,6 +123,7 @@ module _ (P : Placement) where
 
   -- from a state of the algorithm that the store runs on, while requests taken and steps to come are 65,535 at most
   pub never_23 : (s : Found) (l : List RawStep) → s.requests + length l ≤ 65535 → (r : Answer) → In r (R.answers_from P s l) → ¬ (r.result ≡ 23)
+  never_23 s [] h r x3 e = elim x3 [ ]
   never_23 s (a ∷ l) h r (here p) e = let z = all_taken (forget s) a (sym (result_same P s (decode P a)) ∙ ap (λ x. x.result) p ∙ e) in omega arith
   never_23 s (a ∷ l) h r (there q) e =
       never_23 (R.after_decoded P s (decode P a)) l

@@ -67,6 +67,14 @@ reports_of (L.report c k w ∷ ds) = k ∷ reports_of ds
 
 module _ (P : Placement) (ok : placement_refusal P ≡ 0) where
   listed : (k : ℕ) (ds : List Action) → Any (IsReport P ok k) ds → In k (reports_of ds)
+  listed k [] x' = elim x' [ ]
+  listed k (L.request o ∷ ds) (here p) = elim p [ ]
+  listed k (L.perform c j ∷ ds) (here p) = elim p [ ]
+  listed k (L.send c j i ∷ ds) (here p) = elim p [ ]
+  listed k (L.dispatch i m ∷ ds) (here p) = elim p [ ]
+  listed k (L.take_broadcast i ∷ ds) (here p) = elim p [ ]
+  listed k (L.take_single c ∷ ds) (here p) = elim p [ ]
+  listed k (L.deliver m i ∷ ds) (here p) = elim p [ ]
   listed k (L.request o ∷ ds) (there h) = listed k ds h
   listed k (L.perform c j ∷ ds) (there h) = listed k ds h
   listed k (L.send c j i ∷ ds) (there h) = listed k ds h

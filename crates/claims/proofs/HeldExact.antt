@@ -1,7 +1,7 @@
 -- A step answers 100 exactly where the published move puts its message into ppwait, and a step 8 answers 0 exactly where its message joins
 -- the inbox.
 use Prim.Native.Nat.{ℕ}
-use mathlib.Core.Bool.{cond, false, false≢true, true}
+use mathlib.Core.Bool.{cond, false≢true, true}
 use mathlib.Core.Logic.{◌↔◌}
 use mathlib.Core.Option.{Option, none, some}
 use mathlib.Core.Path.{ap, refl, subst, sym, ◌∙◌, ◌≡◌}

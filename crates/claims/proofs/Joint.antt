@@ -146,6 +146,14 @@ module _ {U : Values} (P : Placement) (ok : placement_refusal P ≡ 0) (ops : Li
       (promise_out lower (external net) (rank net (map lower E)) E (keeps_promise net (map lower E) v)))
 
   pub mcasts_dispatches : (m : Msg U) (e : Joint U) → Mcasts m (lower e) → Dispatches m (upper e)
+  mcasts_dispatches m (request _) h = elim h [ ]
+  mcasts_dispatches m (perform _) h = elim h [ ]
+  mcasts_dispatches m (send _) h = elim h [ ]
+  mcasts_dispatches m (take _ _) h = elim h [ ]
+  mcasts_dispatches m (join _) h = elim h [ ]
+  mcasts_dispatches m (deliver _ _) h = elim h [ ]
+  mcasts_dispatches m (report _ _) h = elim h [ ]
+  mcasts_dispatches m idle h = elim h [ ]
   mcasts_dispatches m (dispatch n) h = h
 
   pub both : (E : List (Joint U)) → JointExecution E → Valid W (map upper E) × ChannelExecution net (map lower E)

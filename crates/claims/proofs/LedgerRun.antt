@@ -28,14 +28,13 @@ use Rattle.claims.proofs.Joint.{Joint, JointExecution, both, join, lower, mcasts
 use Rattle.claims.proofs.SameWorld.{Same, dest_same}
 use Rattle.claims.specs.Ledger.{Ledger, Op, deliver, ledger_mail, op_at, world_of}
 use Rattle.registers.specs.Layer as R
-use Rattle.automaton.specs.State as C
-use Rattle.automaton.specs.Automaton as A
 
 pub posts_joined : {U : Values} → {k : ℕ} (l : List (Msg U)) (E : List (Joint U)) → Any (Posts k) (map upper (joined l E)) → Any (Posts k) (map upper E)
 posts_joined [] E h = h
 posts_joined {k} (m ∷ l) E h = go (posts_joined l (join m ∷ E) h)
   where
     go : Any (Posts k) (R.idle ∷ map upper E) → Any (Posts k) (map upper E)
+    go (Rattle.lists.specs.Histories.here x4) = elim x4 [ ]
     go (there x) = x
 
 pub joined_posts : {U : Values} → {k : ℕ} (l : List (Msg U)) (E : List (Joint U)) → Any (Posts k) (map upper E) → Any (Posts k) (map upper (joined l E))

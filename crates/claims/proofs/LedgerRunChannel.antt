@@ -68,6 +68,7 @@ module _ {U : Values} (P : Placement) (ok : placement_refusal P ≡ 0) where
           ready = (f.0, ap (λ u. u.out (from WF m)) (sym s.state=) ∙ ap b.layer.out sent_by ∙ f.1)
 
           p : (j : ℕ) → Any (Posts j) (R.dispatch m ∷ map upper E) → (i : ℕ) × (b.chosen j ≡ some i)
+          p j (here x3) = elim x3 [ ]
           p j (there x) = s.posted_at j x
 
       -- 7
@@ -95,6 +96,7 @@ module _ {U : Values} (P : Placement) (ok : placement_refusal P ≡ 0) where
               rel = released (suc (b.channel.taken i)) (b.channel.held i)
 
               p : (j : ℕ) → Any (Posts j) (R.idle ∷ map upper E) → (c : ℕ) × (b.chosen j ≡ some c)
+              p j (here x5) = elim x5 [ ]
               p j (there x) = s.posted_at j x
 
       -- 8
@@ -117,6 +119,7 @@ module _ {U : Values} (P : Placement) (ok : placement_refusal P ≡ 0) where
               d= = flight_dest P ok ops_f at_f b E h s c x e
 
               p : (j : ℕ) → Any (Posts j) (R.idle ∷ map upper E) → (i : ℕ) × (b.chosen j ≡ some i)
+              p j (here x6) = elim x6 [ ]
               p j (there y) = s.posted_at j y
 
               into : (t : Bool) → Agrees NF (landing NF.mail t b.channel c x) (cond t (A.join x.msg ∷ map lower E) (map lower E)) × ChannelExecution NF (cond t (A.join x.msg ∷ map lower E) (map lower E))
@@ -154,4 +157,5 @@ module _ {U : Values} (P : Placement) (ok : placement_refusal P ≡ 0) where
               go (reply k w) = refl
 
           p : (j : ℕ) → Any (Posts j) (R.deliver m i ∷ map upper E) → (c : ℕ) × (b.chosen j ≡ some c)
+          p j (here x3) = elim x3 [ ]
           p j (there x) = s.posted_at j x

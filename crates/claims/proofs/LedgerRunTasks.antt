@@ -27,8 +27,6 @@ use Rattle.claims.proofs.SameWorld.{lone, next_perform, next_report, next_reques
 use Rattle.claims.specs.Ledger.{Ledger, Op, choosing, first, no_op, op_at, perform, report, request, send, step, world, world_of}
 use Rattle.claims.specs.Holders.{in_set}
 use Rattle.registers.specs.Layer as R
-use Rattle.automaton.specs.State as C
-use Rattle.automaton.specs.Automaton as A
 
 module _ {U : Values} (P : Placement) (ok : placement_refusal P ≡ 0) where
   module _ (ops_f : List Op) (at_f : ℕ → Option ℕ) where
@@ -60,6 +58,7 @@ module _ {U : Values} (P : Placement) (ok : placement_refusal P ≡ 0) where
           placing i = ap (λ t. in_set t.holders i) it ∙ ap (λ S. in_set S i) f.1 ∙ ap (λ t. in_set (holders P t.reg) i) (sym it)
 
           p : (k : ℕ) → Any (Posts k) (R.request (length b.ops) ∷ map upper E) → (i : ℕ) × (b.chosen k ≡ some i)
+          p k (here x3) = elim x3 [ ]
           p k (there x) = s.posted_at k x
 
       -- 3
@@ -83,6 +82,7 @@ module _ {U : Values} (P : Placement) (ok : placement_refusal P ≡ 0) where
           f' = subst (λ a. (b.layer.status a ≡ asking k) × ((world P b).holds k (home P a) ≡ true) × ((world P b).upd k ≡ true → (j : ℕ) → (world P b).holds k j ≡ true → j ≡ home P a)) mine f
 
           p : (j : ℕ) → Any (Posts j) (R.perform k ∷ map upper E) → (i : ℕ) × (b.chosen j ≡ some i)
+          p j (here x3) = elim x3 [ ]
           p j (there x) = s.posted_at j x
 
       -- 4, 5
@@ -145,4 +145,5 @@ module _ {U : Values} (P : Placement) (ok : placement_refusal P ≡ 0) where
           mine = sym (ap (λ o. o.task) there_op ∙ busy_task WF (map upper E) c k (subst (λ t. Busy t k) (sym (ap (λ u. u.status c) (sym s.state=) ∙ f)) refl))
 
           p : (j : ℕ) → Any (Posts j) (R.report k w ∷ map upper E) → (i : ℕ) × (b.chosen j ≡ some i)
+          p j (here x3) = elim x3 [ ]
           p j (there x) = s.posted_at j x

@@ -14,9 +14,6 @@ use Rattle.claims.proofs.LedgerRun.{Sim}
 use Rattle.claims.proofs.LedgerRunChannel.{sim_deliver, sim_dispatch, sim_take_broadcast, sim_take_single}
 use Rattle.claims.proofs.LedgerRunTasks.{sim_perform, sim_report, sim_request, sim_send}
 use Rattle.claims.specs.Ledger.{Action, Ledger, Op, deliver, dispatch, ledger, perform, report, request, send, step, take_broadcast, take_single}
-use Rattle.registers.specs.Layer as R
-use Rattle.automaton.specs.State as C
-use Rattle.automaton.specs.Automaton as A
 
 module _ {U : Values} (P : Placement) (ok : placement_refusal P ≡ 0) where
   module _ (ops_f : List Op) (at_f : ℕ → Option ℕ) where

@@ -1,6 +1,5 @@
 -- What K9 and K10 leave in the queues and the table, and the numbers of steps refused for themselves or because there is nothing there,
 -- computed. The answers of K1 to K10 stand in crates/named.
-use lib.Dec.{eqb, leb}
 use mathlib.Core.List.{[], map, ◌∷◌}
 use mathlib.Core.Path.{refl, ◌≡◌}
 use Rattle.lists.specs.Every.{each}

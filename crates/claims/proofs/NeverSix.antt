@@ -10,7 +10,6 @@ use mathlib.Core.Option.{map, some}
 use mathlib.Core.Path.{ap, refl, subst, sym, ◌∙◌, ◌≡◌}
 use native.Mathlib.Omega.{arith}
 use Rattle.lists.specs.Places.{nth}
-use Rattle.automaton.specs.Automaton.{after}
 use Rattle.automaton.specs.Renaming.{tag_map}
 use Rattle.automaton.specs.State.{ChannelState, Tagged, arriving, landing, taking}
 use Rattle.lists.specs.Histories.{In, here}

@@ -22,7 +22,6 @@ use Rattle.claims.specs.Command.{Command}
 use Rattle.claims.specs.Numbers.{AsksRead, AsksUpdate, Comes, IsDone, alone_here, busy_read, busy_update, copy_here, crowded, far_behind, held_full, inbox_full_single, inbox_full_take, inbox_after, last_broadcast, last_read, last_update, made, no_broadcast, no_copy, no_holder, no_letter, no_message, nobody, none_in_flight, not_alone, not_asking, not_done, not_read, not_update, outbox_full_read, outbox_full_reply, outbox_full_update, second_in_flight, undelivered}
 use Rattle.claims.specs.Published.{Doing, Letter, Published, answered, asking_read, asking_update, command_refusal, done_read, done_update, mail, quiet, stage, waiting}
 use Rattle.claims.specs.Refusals.{deliver_refusal, head_refusal, outbox_room, perform_refusal, report_refusal, request_refusal, send_read_refusal, send_update_refusal, update_room}
-use Rattle.claims.specs.Command as K
 
 module _ (P : Placement) where
   busy : (n : ℕ) (d : Doing) → ¬ (d ≡ quiet) → request_refusal n (stage P d) ≡ 20

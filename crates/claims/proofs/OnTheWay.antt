@@ -39,7 +39,6 @@ use Rattle.claims.proofs.Joint.{Joint, both, lower, mcasts_dispatches, narrow, n
 use Rattle.claims.proofs.LedgerRun.{Sim}
 use Rattle.claims.proofs.LedgerRuns.{final}
 use Rattle.claims.proofs.Pending.{Pending, pending_one, pending_posted, pending_waits}
-use Rattle.claims.proofs.Range.{small}
 use Rattle.claims.proofs.Stable.{nth_in}
 use Rattle.claims.specs.Ledger.{Action, ledger, op_at, sets_of, wide, world}
 
@@ -92,6 +91,14 @@ module _ {U : Values} (P : Placement) (ok : placement_refusal P ≡ 0) (ds : Lis
   ord = ordered W rk (map upper E) (promised P ok (ledger P ds).ops (ledger P ds).chosen E flows)
 
   delivers_receives : (m : Msg U) (i : ℕ) (e : Joint U) → Delivers m i (upper e) → Receives m i (lower e)
+  delivers_receives m i (Rattle.claims.proofs.Joint.request _) h = elim h [ ]
+  delivers_receives m i (Rattle.claims.proofs.Joint.perform _) h = elim h [ ]
+  delivers_receives m i (Rattle.claims.proofs.Joint.send _) h = elim h [ ]
+  delivers_receives m i (Rattle.claims.proofs.Joint.dispatch _) h = elim h [ ]
+  delivers_receives m i (Rattle.claims.proofs.Joint.take _ _) h = elim h [ ]
+  delivers_receives m i (Rattle.claims.proofs.Joint.join _) h = elim h [ ]
+  delivers_receives m i (Rattle.claims.proofs.Joint.report _ _) h = elim h [ ]
+  delivers_receives m i Rattle.claims.proofs.Joint.idle h = elim h [ ]
   delivers_receives m i (Joint.deliver n j) h = h
 
   receives_of : {m : Msg U} {i : ℕ} → Any (Delivers m i) (map upper E) → Any (Receives m i) (map lower E)

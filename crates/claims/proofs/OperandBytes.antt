@@ -7,7 +7,7 @@ use lib.ListN.{get_or}
 use Rattle.names.specs.Placement.{Placement, placement}
 use Rattle.names.specs.Update.{known_function}
 use Rattle.claims.specs.Command.{request_update}
-use Rattle.claims.specs.Steps.{Decoded, good, RawStep, names_task, names_card, names_register, names_chosen, names_function, operand, unnamed_zero, known, command_of, task_there, register_there, card_there, function_there, decode}
+use Rattle.claims.specs.Steps.{good, names_task, names_card, names_register, names_chosen, names_function, operand, unnamed_zero, known, command_of, task_there, register_there, card_there, function_there, decode}
 
 -- bytes 4 to 7, low byte first
 pub operand_bytes : (a : List ℕ) → operand a ≡ get_or a 4 0 + 256 * get_or a 5 0 + 65536 * get_or a 6 0 + 16777216 * get_or a 7 0

@@ -7,7 +7,6 @@ use mathlib.Core.Bool.{Bool, false, true, true≢false, ◌&&◌}
 use mathlib.Core.Logic.{inl, inr, ◌↔◌, ◌⊎◌}
 use mathlib.Core.Path.{ap, refl, subst, sym, ◌∙◌, ◌≡◌}
 use native.Mathlib.Omega.{arith}
-use Rattle.lists.specs.Histories.{back}
 use Rattle.lists.specs.Tests.{and_false, and_fst, and_intro, and_snd, eqb_of}
 use Rattle.names.proofs.KnownFunctions.{functions_unknown}
 use Rattle.names.specs.Placement.{Placement, registers, tasks}
@@ -20,7 +19,6 @@ use Rattle.claims.specs.Numbers.{Comes, Misformed, byte, code_high, code_zero, n
 use Rattle.claims.specs.Published.{Published}
 use Rattle.claims.specs.PublishedRun.{decoded_refusal, refusal_of}
 use Rattle.claims.specs.Steps.{Decoded, RawStep, bad, card_there, command_of, decode, function_there, good, known, names_card, names_chosen, names_function, names_register, names_task, need, register_there, task_there, unnamed_zero}
-use Rattle.claims.specs.Command as K
 
 -- the number of a refused step, 0 of a good one
 abbrev number_in : Decoded → ℕ

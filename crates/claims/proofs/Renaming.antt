@@ -13,7 +13,6 @@ use Rattle.automaton.specs.State.{ChannelState}
 use Rattle.names.specs.Placement.{Placement, copy, holders, home}
 use Rattle.names.specs.Results.{result_from}
 use Rattle.claims.specs.Command.{Command}
-use Rattle.claims.specs.Published.{stage}
 use Rattle.claims.specs.Refusals.{Sight, Stage, alone, asks_read, asks_update, deliver_refusal, done, head_refusal, outbox_room, quiet, refusal, send_read_refusal, send_update_refusal, waits}
 use Rattle.claims.specs.Results.{holding, result}
 use Rattle.claims.specs.Command as K

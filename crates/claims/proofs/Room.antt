@@ -17,14 +17,13 @@ use Rattle.claims.proofs.ChannelLimits.{Modest}
 use Rattle.claims.proofs.Executions.{Execution, trace}
 use Rattle.claims.proofs.LedgerRun.{asked_op}
 use Rattle.claims.proofs.OnTheWay.{broadcasts_few, held_short, outbox_short, singles_short}
-use Rattle.claims.proofs.Range.{Small, small}
+use Rattle.claims.proofs.Range.{Small}
 use Rattle.claims.proofs.Shown.{alike, numbers, show_msg, show_status, shown}
 use Rattle.claims.proofs.Stable.{S, hold}
 use Rattle.claims.proofs.Steady.{update_on}
 use Rattle.claims.specs.Ledger.{Action, Ledger, Op, answered_of, ledger, ledger_mail, op_at, sets_of, wide, world}
 use Rattle.claims.specs.Published.{Doing, Letter, asking_read, asking_update, done_read, done_update, mail, quiet, waiting}
 use Rattle.registers.specs.Layer as R
-use Rattle.claims.specs.Ledger as L
 use Rattle.automaton.specs.State as C
 
 -- ---- what a task asks, read off the published status

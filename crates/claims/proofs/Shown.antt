@@ -13,7 +13,7 @@ use Rattle.automaton.specs.Renaming.{Alike, SentAlike, channel_map}
 use Rattle.automaton.specs.State.{ChannelState}
 use Rattle.lists.specs.Tests.{eqb_refl}
 use Rattle.names.specs.CardSet.{just_of, member_of, several, sole_of}
-use Rattle.names.specs.Placement.{Placement, copy, holders, home, placement_refusal, primary}
+use Rattle.names.specs.Placement.{Placement, copy, home, placement_refusal, primary}
 use Rattle.names.specs.Update.{updated}
 use Rattle.registers.specs.Layer.{Values, Msg, State, Status, ask, reply, to}
 use Rattle.names.proofs.CardSets.{not_several}

@@ -26,7 +26,6 @@ use Rattle.claims.proofs.Shown.{numbers}
 use Rattle.claims.specs.Ledger.{Action, Ledger, Op, ledger, world_of}
 use Rattle.claims.specs.Found.{asking_read, asking_update, done_read, done_update}
 use Rattle.registers.specs.Layer as R
-use Rattle.claims.specs.Ledger as L
 
 pub nth_in : {A : Type 0} {a : A} {l : List A} → In a l → (n : ℕ) × (nth l n ≡ some a)
 nth_in (here p) = (0, ap some p)

@@ -18,7 +18,6 @@ use Rattle.registers.specs.Layer.{to}
 use Rattle.claims.proofs.ChannelLimits.{Modest, free_taken, modest_deliver, modest_dispatch, modest_single, modest_start, modest_take}
 use Rattle.claims.proofs.Range.{Fits, decoded_fits}
 use Rattle.claims.specs.Command.{Command}
-use Rattle.claims.specs.Ledger.{asks}
 use Rattle.claims.specs.Messages.{Body, ReadDo, ReadReply, UpdateDo, UpdateReply}
 use Rattle.claims.specs.Published.{Doing, Letter, Published, answered, asking_read, asking_update, begin, command_refusal, delivering, dispatching, done_read, done_update, effect, mail, performing, post, quiet, receiving, reply_to, requesting, sending, sending_read, sending_update, set_copy, set_status, stage, waiting}
 use Rattle.claims.specs.PublishedRun.{after_decoded, final_from}

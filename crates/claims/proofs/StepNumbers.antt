@@ -125,6 +125,7 @@ module _ (P : Placement) (a : RawStep) where
   -- ---- 11
 
   zeros_at : (l : List ℕ) → zeros a.argument l ≡ true → (k : ℕ) → In k l → byte a k ≡ 0
+  zeros_at [] e k x'' = elim x'' [ ]
   zeros_at (j ∷ l) e k (here p) = subst (λ i. byte a i ≡ 0) p (eqb-true _ _ (and_fst (eqb (byte a j) 0) _ e))
   zeros_at (j ∷ l) e k (there h) = zeros_at l (and_snd (eqb (byte a j) 0) _ e) k h
 

@@ -1,5 +1,5 @@
 -- A decoded step is taken exactly if Figures 5 and 7 allow it and it is within the limits.
-use Prim.Native.Nat.{suc, ℕ, ◌+◌}
+use Prim.Native.Nat.{suc, ℕ}
 use lib.Dec.{eqb, leb, ltb}
 use lib.ListN.{length}
 use mathlib.Core.Bool.{Bool, cond, false, not, true, ◌&&◌}

@@ -31,7 +31,6 @@ use Rattle.claims.specs.Ledger.{Action, Ledger, Op, first, ledger, no_op, op_at,
 use Rattle.claims.specs.Found.{Doing, Letter, asking_read, asking_update, done_read, done_update, effect, performing, quiet, requesting, sending, waiting}
 use Rattle.registers.specs.Layer as R
 use Rattle.claims.specs.Command as K
-use Rattle.claims.specs.Ledger as L
 
 pub status_set : (ops : List Op) (c t : ℕ) (v : Doing) (s : Status numbers) (F : ℕ → Status numbers) → t ≡ c → show_status ops s ≡ v
     → (d : ℕ) → cond (eqb c d) v (show_status ops (F d)) ≡ show_status ops (cond (eqb t d) s (F d))

@@ -2,7 +2,7 @@
 use Rattle.std.specs.Prelude.{ℕ, List, [], ◌∷◌, ◌++◌, map}
 use Rattle.names.specs.Placement.{Placement}
 use Rattle.claims.specs.Steps.{RawStep}
-use Rattle.claims.specs.PublishedRun.{Answer, published_run}
+use Rattle.claims.specs.PublishedRun.{published_run}
 
 -- a code and the first bytes of its argument
 abbrev pub step : ℕ → List ℕ → RawStep

@@ -1,7 +1,7 @@
 -- Refusals 20 to 35, then 6 for the outcome (RULES 8.2, 8.5, 8.8), of a decoded step. They are read off the requests taken, what each task
 -- does, the outboxes and the channel; the messages may be of any type. The published algorithm and the ledger each give their own. 0: the step
 -- is taken.
-use Rattle.std.specs.Prelude.{ℕ, Bool, true, false, cond, ◌&&◌, not, List, [], ◌∷◌, leb, ltb, length}
+use Rattle.std.specs.Prelude.{ℕ, Bool, cond, ◌&&◌, not, List, [], ◌∷◌, leb, ltb, length}
 use Rattle.lists.specs.Places.{nth}
 use Rattle.names.specs.CardSet.{several}
 use Rattle.names.specs.Placement.{Placement, home, holders, copy}

@@ -12,7 +12,7 @@ use Rattle.names.specs.Update.{updated}
 use Rattle.names.specs.Placement.{Placement, copy}
 use Rattle.claims.specs.Steps.{RawStep}
 use Rattle.claims.specs.Ledger.{Op, op_at}
-use Rattle.claims.specs.Paper.{Ledger, Action, report, ledger, paper}
+use Rattle.claims.specs.Paper.{Ledger, report, ledger, paper}
 use Rattle.claims.specs.PublishedRun.{Answer}
 
 module _ (P : Placement) (steps : List RawStep) where

@@ -1,4 +1,6 @@
 // Which of the ten steps a code and its argument are, or the refusal from 10 to 15.
+#![tactic(auto)]
+
 use names::{Card, Register, Task};
 
 mod steps;
@@ -7,7 +9,7 @@ pub use steps::decode;
 
 // What a code and its argument are: one of the ten steps, decoded, or refused with a number from 10 to 15. One enum and not two, so that
 // the code is looked at once.
-#[derive(Drop)]
+#[derive(Clone, Copy)]
 pub enum Command {
     RequestRead(Task, Register),
     // function and operand

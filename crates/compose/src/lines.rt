@@ -39,7 +39,7 @@ const STEPS: u32 = 4;
 const COUNTS: u32 = 5;
 
 // What is read of a text so far.
-#[derive(Drop)]
+#[derive(Clone, Copy)]
 pub(crate) struct Text {
     pub state: u32,
     // the number of the line, from 1, and how many of its bytes there are

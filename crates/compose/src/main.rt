@@ -1,5 +1,7 @@
 // Reads a run in words from standard input and writes its run file to standard output. A text that is no run gets a message, and nothing is
 // written. README.md says which lines there are, and what is said of a wrong one.
+#![tactic(auto)]
+
 mod lines;
 mod steps;
 mod words;

@@ -9,7 +9,7 @@ use console::{prefix, with_digit};
 pub(crate) const FAILED: usize = 256;
 
 // What was read, as a number, and the place after it.
-#[derive(Drop)]
+#[derive(Clone, Copy)]
 pub(crate) struct Found {
     pub at: usize,
     pub value: u32,

@@ -2,6 +2,8 @@
 //
 // A place is where the next byte goes in the page, 0 to 65,536; 65,537 says that a write has failed, and nothing more is written. Each function
 // takes the place and answers the next one; `finish` writes what is left.
+#![tactic(auto)]
+
 mod ending;
 mod pieces;
 mod refusals;

@@ -1,5 +1,7 @@
 // The store for firmware: functions that C and Rust call (RULES 11.6). The caller lends both memories of a store, whole; include/gondzselu.h
 // declares what is here.
+#![tactic(auto)]
+
 ghost use Rattle.std.specs.Prelude.{◌≡◌};
 ghost use Rattle.names.specs.Placement.{placement, placement_refusal};
 ghost use Rattle.channel.specs.Layout.{made_of, taken_by};
@@ -168,7 +170,7 @@ pub extern "C" fn gondzselu_step(
 }
 
 // A step's result, and the step as a tally counts it.
-#[derive(Drop)]
+#[derive(Clone, Copy)]
 struct Counts {
     result: u8,
     taken: u32,

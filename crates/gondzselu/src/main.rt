@@ -2,6 +2,8 @@
 //
 // It reads at most 65,536 bytes. No file of more than 36,949 is accepted, and past that the first bytes alone decide the refusal, 3 or 2
 // (runfile, specs/FileRun, `long-file`), so a longer input gets its right number too.
+#![tactic(auto)]
+
 fn answer(file: &[u8]) {
     let mut out = [0u8; 20482];
     let count = runfile::reply(file, &mut out);

@@ -7,6 +7,8 @@
 //         primaries; codes; arguments of eight bytes.
 //   w     An answer file is written into an output of that length, all ones before. The bytes are the number of results and the number of
 //         values, two bytes each, low byte first. The results are 0, 20 and zeros, the values 0, 0, 16,909,060 and zeros.
+#![tactic(auto)]
+
 mod answers;
 mod files;
 mod text;

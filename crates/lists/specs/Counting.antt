@@ -123,5 +123,6 @@ only_one a (b ∷ c ∷ l) o f h = absurd (o.0 (here (f c (there (here refl)) �
 
 -- what stands once does not stand in front of itself
 pub once_front : {A : Type 0} (l r : List A) (a : A) → Once (l ++ a ∷ r) → ¬ In a l
+once_front [] r a o x = elim x [ ]
 once_front (b ∷ l) r a o (here p) = o.0 (subst (λ x. In x (l ++ a ∷ r)) (sym p) (any_right l (here refl)))
 once_front (b ∷ l) r a o (there h) = once_front l r a o.1 h

@@ -1,5 +1,5 @@
 -- A counted loop as a fold.
-use Rattle.std.specs.Prelude.{ℕ, zero, suc, ◌+◌, ◌*◌, ◌≤◌, ◌<◌, ◌≡◌, refl}
+use Rattle.std.specs.Prelude.{ℕ, zero, suc, ◌+◌, ◌≤◌, ◌<◌, ◌≡◌, refl}
 use Rattle.std.proofs.Common.{ap, ◌∙◌, add-one, arith}
 
 -- `f 0`, then `f 1`, and so on: n turns

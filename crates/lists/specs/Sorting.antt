@@ -168,6 +168,7 @@ module _ {A : Type 0} (key : A → ℕ) where
 
   -- in a sorted list, what stands before k is what has a smaller key
   pub before_less : {k j : A} (l r : List A) → Sorted (l ++ k ∷ r) → In j l → key j < key k
+  before_less [] r s x = elim x [ ]
   before_less {k} (a ∷ l) r s (here e) = subst (λ x. key x < key k) e (s.0 k (any_right l (here refl)))
   before_less (a ∷ l) r s (there h) = before_less l r s.1 h
 
@@ -196,5 +197,6 @@ module _ {A : Type 0} (key : A → ℕ) where
 
   -- the two parts of a sorted list share nothing
   pub apart : {j k : A} (l r : List A) → Sorted (l ++ r) → In j l → In k r → key j < key k
+  apart [] r s x y = elim x [ ]
   apart {k = k} (a ∷ l) r s (here e) y = subst (λ x. key x < key k) e (s.0 k (any_right l y))
   apart (a ∷ l) r s (there x) y = apart l r s.1 x y

@@ -1,6 +1,6 @@
 -- Tests on numbers and Booleans. `search (needs, cases)` closes a return whose contract picks by tests: each rule of `cases` gives a
 -- test's value from the fact that a branch's arm knows.
-use Rattle.std.specs.Prelude.{ℕ, ◌+◌, ◌*◌, ◌/◌, ◌≤◌, ◌<◌, ◌≡◌, refl, ◌⊎◌, Bool, true, false, cond, ◌&&◌, eqb, ltb}
+use Rattle.std.specs.Prelude.{ℕ, ◌+◌, ◌/◌, ◌≤◌, ◌<◌, ◌≡◌, refl, ◌⊎◌, Bool, true, false, cond, ◌&&◌, eqb, ltb}
 use Rattle.std.proofs.Common.{sym, ◌∙◌, inl, inr, true≢false, arith, div-lt_iff_lt-mul, lt-ltb, le-ltb, le-leb, eq-eqb, ne_eqb}
 use Rattle.std.proofs.lemmas.Bool.{false≢true, lt-leb}
 use Rattle.std.proofs.Math.Decide.{dec_lt}

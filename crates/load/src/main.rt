@@ -1,5 +1,7 @@
 // Draws a load: the seed and the number of steps are its two arguments, and a run file on standard input has the placement (RULES 17.7). What is no
 // such number or file gets a message, and nothing is written. README.md says which.
+#![tactic(auto)]
+
 use console::{prefix, say, with_digit};
 
 // Larger than any number where the text is none.

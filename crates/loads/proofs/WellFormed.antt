@@ -81,6 +81,7 @@ module _ (P : Placement) where
   Commands l = (a : RawStep) → In a l → (c : Command) × (decode P a ≡ good c)
 
   pub run_not_ill : (s : Found) (l : List RawStep) → Commands l → (r : Answer) → In r (answers_from P s l) → ¬ Ill r.result
+  run_not_ill s [] h r x3 i = elim x3 [ ]
   run_not_ill s (a ∷ l) h r (here p) i =
       let c = h a (here refl) in
       not_ill s a c.0 c.1 (subst Ill (sym (ap (λ x. x.result) p)) i)

@@ -9,7 +9,7 @@ ghost use Rattle.loads.specs.Filling.{argument_of};
 use super::draws::{draw, function_from, next, one_of};
 
 // What a step names, 0 where its code names none, and the state after its draws.
-#[derive(Drop)]
+#[derive(Clone, Copy)]
 pub(crate) struct Fields {
     pub first: u32,
     pub second: u32,

@@ -1,4 +1,6 @@
 // Loads: a run file drawn from a seed, for a placement and a number of steps, into an output that the caller lends (RULES 17).
+#![tactic(auto)]
+
 ghost use Rattle.std.specs.Prelude.{◌≡◌, ◌+◌, ◌*◌, ◌≤◌, ◌<◌, true, ◌++◌, map, length, set};
 ghost use Rattle.std.proofs.lemmas.List.Edits.{sets};
 ghost use Rattle.names.specs.Placement.{placement, sizes_in_range};

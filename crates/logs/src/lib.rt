@@ -1,5 +1,7 @@
 // The log of a register in the run of a file (RULES 16.6): the updates by function 5 that the register's primary applied, in the order applied
 // there, of each the home card of its task and its operand.
+#![tactic(auto)]
+
 ghost use Rattle.std.specs.Prelude.{◌≡◌, ◌+◌, ◌≤◌, ◌<◌, length};
 ghost use Rattle.logs.specs.Entries.{entries, log_at, cards_put, operands_put};
 ghost use Rattle.logs.specs.FileLog.{logged_of, cards_logged, operands_logged};
@@ -13,14 +15,14 @@ mod steps;
 use steps::turn;
 
 // What a step adds to a log: nothing, or one update's home card and operand.
-#[derive(Drop)]
+#[derive(Clone, Copy)]
 pub enum Entry {
     Nothing,
     Added(u32, u32),
 }
 
 // What is said of a log: 0 and how many updates it has, or the refusal of the file and none.
-#[derive(Drop)]
+#[derive(Clone, Copy)]
 pub struct Logged {
     pub refusal: u8,
     pub length: u32,

@@ -33,6 +33,8 @@ pub k9_unordered : Unordered k9_overtaken
 k9_unordered = overtaken 1 0 0 1 (before (now (refl, refl))) (here (refl, refl)) (now (refl, refl)) (there (there (there (here (refl, refl))))) without
   where
     without : ¬ Any (IsReceive {M = ℕ} 0 1) (mcast 1 0 (only 1) ∷ receive 0 0 ∷ mcast 0 2 everywhere ∷ [])
+    without (here x3) = elim x3 [ ]
+    without (there (there (here x10))) = elim x10 [ ]
     without (there (here q)) = let e = q.1 in omega arith
     without (there (there (there x))) = any_nil x
 
@@ -47,6 +49,9 @@ k10_unordered =
     (there (there (there (there (there (here (refl, refl))))))) without
   where
     without : ¬ Any (IsReceive {M = ℕ} 0 0) (mcast 2 1 (only 0) ∷ receive 1 1 ∷ mcast 1 0 (only 1) ∷ receive 0 1 ∷ mcast 0 2 everywhere ∷ [])
+    without (here x3) = elim x3 [ ]
+    without (there (there (here x10))) = elim x10 [ ]
+    without (there (there (there (there (here x17))))) = elim x17 [ ]
     without (there (here q)) = let e = q.1 in omega arith
     without (there (there (there (here q)))) = let e = q.1 in omega arith
     without (there (there (there (there (there x))))) = any_nil x
@@ -62,5 +67,8 @@ uncounted_unordered =
   where
     without : ¬ Any (IsReceive {M = ℕ} 1 1) (receive 0 1 ∷ mcast 2 0 (only 1) ∷ receive 1 0 ∷ mcast 1 2 everywhere ∷ mcast 0 2 (λ i. eqb i 1 || eqb i 2) ∷ [])
     without (here q) = let e = q.0 in omega arith
+    without (there (here x6)) = elim x6 [ ]
+    without (there (there (there (here x13)))) = elim x13 [ ]
+    without (there (there (there (there (here x17))))) = elim x17 [ ]
     without (there (there (here q))) = let e = q.1 in omega arith
     without (there (there (there (there (there x))))) = any_nil x

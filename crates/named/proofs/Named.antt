@@ -48,6 +48,7 @@ checked = refl
 
 passed : (rs : List NamedRun) → all rs ≡ true → (r : NamedRun) → In r rs → passes r ≡ true
 unfolding all
+passed [] e r x'' = elim x'' [ ]
 passed (q ∷ rs) e r (here p) = subst (λ x. passes x ≡ true) p (and_fst (passes q) (all rs) e)
 passed (q ∷ rs) e r (there h) = passed rs (and_snd (passes q) (all rs) e) r h
 

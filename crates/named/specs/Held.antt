@@ -1,7 +1,6 @@
 -- What K9, K10 and the run of two held messages (RULES 13) leave held, read from the table's own files: K9's message, tagged 1, at card 1; K10's
 -- reply at card 0; and both in order of arrival (6.5).
 use Rattle.std.specs.Prelude.{ℕ, ◌≡◌, List, [], ◌∷◌, map, take}
-use Rattle.automaton.specs.State.{Tagged}
 use Rattle.claims.specs.Published.{Published, begin}
 use Rattle.claims.specs.PublishedRun.{final_from}
 use Rattle.runfile.specs.RunFile.{placement_in, run_file_in}

@@ -1,5 +1,5 @@
 -- A packet written is the packet read, and no other word changes; a letter whose fields have room is carried as it is.
-use Rattle.std.proofs.Common.{◌≡◌, ℕ, zero, suc, ◌+◌, ◌*◌, ◌/◌, ◌%◌, ◌<◌, ◌≤◌, cond, not, ◌||◌, eqb, ltb, ◌≢◌, List, length, get_or, set, refl, ◌∙◌, ap₂, arith, length-set, get_or-set_other, get_or-set_same, lt-ltb, ne_eqb}
+use Rattle.std.proofs.Common.{◌≡◌, ℕ, ◌+◌, ◌<◌, ◌≤◌, ◌≢◌, List, length, get_or, set, refl, ◌∙◌, arith, length-set, get_or-set_other, get_or-set_same}
 use Rattle.names.specs.declared.Letter.{Letter}
 use Rattle.names.specs.declared.Packet.{Packet}
 use Rattle.names.specs.declared.Body.{Body}
@@ -22,34 +22,6 @@ kind_some ReadDo = (omega arith, omega arith)
 kind_some (ReadReply v) = (omega arith, omega arith)
 kind_some (UpdateDo f v) = (omega arith, omega arith)
 kind_some (UpdateReply v) = (omega arith, omega arith)
-
--- what a body has of the kind, function and value that it is read from
-abbrev Kept : ℕ → ℕ → ℕ → Type 0
-Kept k f v =
-    (kind_of (body_of k f v) ≡ cond (eqb k 0 || ltb 4 k) 4 k)
-    × (function_of (body_of k f v) ≡ cond (eqb k 2) f 0)
-    × (value_of (body_of k f v) ≡ cond (not (eqb k 1)) v 0)
-
-kept_past : (k f v : ℕ) → 4 < k → Kept k f v
-unfolding body_of kind_of function_of value_of
-kept_past k f v h =
-    rw (
-      ne_eqb k 0 (λ e. omega arith),
-      ne_eqb k 1 (λ e. omega arith),
-      ne_eqb k 2 (λ e. omega arith),
-      ne_eqb k 3 (λ e. omega arith),
-      lt-ltb 4 k h,
-    )
-    (refl, refl, refl)
-
-pub kept : (k f v : ℕ) → Kept k f v
-unfolding body_of kind_of function_of value_of
-kept zero f v = (refl, refl, refl)
-kept (suc zero) f v = (refl, refl, refl)
-kept (suc (suc zero)) f v = (refl, refl, refl)
-kept (suc (suc (suc zero))) f v = (refl, refl, refl)
-kept (suc (suc (suc (suc zero)))) f v = (refl, refl, refl)
-kept (suc (suc (suc (suc (suc k))))) f v = kept_past (suc (suc (suc (suc (suc k))))) f v (omega arith)
 
 -- the fields of a word made of fields
 module _ (k t x f to : ℕ) where

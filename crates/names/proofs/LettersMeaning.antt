@@ -1,5 +1,5 @@
 -- The fields of a packet's first word are its digits, and some packets computed.
-use Rattle.std.proofs.Common.{◌≡◌, ℕ, ◌+◌, ◌*◌, ◌/◌, ◌%◌, ◌<◌, refl, arith}
+use Rattle.std.proofs.Common.{◌≡◌, ℕ, ◌+◌, ◌*◌, ◌/◌, ◌%◌, refl, arith}
 use Rattle.names.specs.Letters.{kind_in, task_in, register_in, function_in, to_in, word_of, packet_of, kind_of, function_of, value_of}
 use Rattle.names.specs.LettersMeaning.{LettersMean, LettersComputed}
 use Rattle.names.proofs.Blocks.{letter_back}

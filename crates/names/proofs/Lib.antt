@@ -1,5 +1,6 @@
 pub mod Blocks
 pub mod CardSets
+pub mod Kept
 pub mod KnownFunctions
 pub mod LettersMeaning
 pub mod Picks

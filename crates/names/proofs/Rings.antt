@@ -1,5 +1,5 @@
 -- The words of a ring after a packet has joined it, and after its head is gone. Which words are apart says the ring's own layout.
-use Rattle.std.proofs.Common.{◌≡◌, ℕ, suc, ◌+◌, ◌-◌, ◌*◌, ◌%◌, ◌<◌, ◌≤◌, ◌≢◌, List, length, get_or, set, ◌∙◌, arith, length-set, get_or-set_other, get_or-set_same, lt-ltb, ne_eqb}
+use Rattle.std.proofs.Common.{◌≡◌, ℕ, suc, ◌+◌, ◌-◌, ◌%◌, ◌<◌, ◌≤◌, ◌≢◌, List, length, get_or, set, ◌∙◌, arith, length-set, get_or-set_other, get_or-set_same, lt-ltb, ne_eqb}
 use Rattle.names.specs.declared.Packet.{Packet}
 use Rattle.names.specs.Letters.{letter_of, letter_at, stored}
 use Rattle.names.specs.Rings.{joined, head_gone}

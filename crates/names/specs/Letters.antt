@@ -2,7 +2,7 @@
 -- its lowest digit on, the kind, the task, the register, the function and the destinations; the second has the operand or value. Kinds (RULES
 -- 11.13): 1 read, 2 update, 3 reply to a read, 4 reply to an update; 0 none. Clauses over a body go by 000 Figure 5's order instead. A message
 -- held or in flight has a third word, its tag. All that is said of a letter in memory goes by this page.
-use Rattle.std.specs.Prelude.{ℕ, zero, suc, ◌+◌, ◌*◌, ◌/◌, ◌%◌, ◌<◌, Bool, true, false, cond, not, ◌||◌, List, ◌==◌, slice_index, slice_set}
+use Rattle.std.specs.Prelude.{ℕ, ◌+◌, ◌*◌, ◌/◌, ◌%◌, ◌<◌, Bool, true, cond, not, ◌||◌, List, ◌==◌, slice_index, slice_set}
 use Rattle.names.specs.declared.Body.{Body}
 use Rattle.names.specs.declared.Body.TheVariants.{ReadDo, ReadReply, UpdateDo, UpdateReply}
 use Rattle.names.specs.declared.Letter.{Letter}

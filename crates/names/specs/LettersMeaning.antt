@@ -3,7 +3,6 @@ use Rattle.std.specs.Prelude.{◌≡◌, ℕ, ◌+◌, ◌*◌, ◌<◌}
 use Rattle.names.specs.declared.Letter.{Letter}
 use Rattle.names.specs.declared.Body.TheVariants.{ReadDo, UpdateDo, ReadReply, UpdateReply}
 use Rattle.names.specs.declared.Body.{Body}
-use Rattle.names.specs.declared.Packet.{Packet}
 use Rattle.names.specs.Letters.{kind_in, task_in, register_in, function_in, to_in, letter_of, packet_of, Packs}
 
 -- a message of task t on register x to a set of cards

@@ -1,5 +1,7 @@
 // The vocabulary that the channel, the registers and the run files share: cards, tasks, registers and broadcast numbers as types of
 // their own (RULES 1.6), messages between cards, sets of cards, and what the functions of an update do.
+#![tactic(auto)]
+
 ghost use Rattle.std.specs.Prelude.{◌≡◌, ◌<◌, if◌then◌else◌};
 ghost use Rattle.names.specs.CardSet.{member_of, several, single, sole_of};
 ghost use Rattle.names.specs.Results.{is_taken};
@@ -9,24 +11,24 @@ pub mod letters;
 pub mod placement;
 
 // A card (000: site), numbered from 0.
-#[derive(Drop)]
+#[derive(Clone, Copy)]
 pub struct Card(pub u32);
 
 // A task (000: client), numbered from 0.
-#[derive(Drop)]
+#[derive(Clone, Copy)]
 pub struct Task(pub u32);
 
 // A register (000: object), numbered from 0.
-#[derive(Drop)]
+#[derive(Clone, Copy)]
 pub struct Register(pub u32);
 
 // The number of a broadcast, from 1; as a tag, the number of broadcasts that the sender had taken.
-#[derive(Drop)]
+#[derive(Clone, Copy)]
 pub struct BroadcastNumber(pub u32);
 
 // What a message asks or answers (000 §5.1), in the order in which Figure 5 receives it. In memory it is known by its kind (letters), and the
 // kinds are numbered in another order.
-#[derive(Drop)]
+#[derive(Clone, Copy)]
 pub enum Body {
     // receive((read-do, c, ξ, x), j)_i
     ReadDo,
@@ -39,7 +41,7 @@ pub enum Body {
 }
 
 // A message serves the open request of one task on one register.
-#[derive(Drop)]
+#[derive(Clone, Copy)]
 pub struct Message {
     pub task: Task,
     pub register: Register,
@@ -47,14 +49,14 @@ pub struct Message {
 }
 
 // A message with its destinations, a set of cards.
-#[derive(Drop)]
+#[derive(Clone, Copy)]
 pub struct Letter {
     pub message: Message,
     pub to: u32,
 }
 
 // A letter as it lies in memory (specs/Letters): kind, task, register, function and destinations in one word, the operand or value in another.
-#[derive(Drop)]
+#[derive(Clone, Copy)]
 pub struct Packet {
     pub word: u32,
     pub value: u32,
@@ -62,7 +64,7 @@ pub struct Packet {
 
 // What a step answers: 0 where it is taken, or 100 where it is taken and its message is held, else its refusal; and the value that a taken
 // report gives, read or found, else 0.
-#[derive(Drop)]
+#[derive(Clone, Copy)]
 pub struct Answer {
     pub result: u8,
     pub value: u32,

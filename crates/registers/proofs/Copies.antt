@@ -65,6 +65,11 @@ module _ {U : Values} (W : World U) where
   shown_on idle E k i x h = h
 
   shown_now : (e : Event U) (E : List (Event U)) (k i x : ℕ) → W.upd k ≡ true → W.reg k ≡ x → Crucial W k i e → In k ((run W (e ∷ E)).shown i x)
+  shown_now (request _) E k i x u g p = elim p [ ]
+  shown_now (send _) E k i x u g p = elim p [ ]
+  shown_now (dispatch _) E k i x u g p = elim p [ ]
+  shown_now (report _ _) E k i x u g p = elim p [ ]
+  shown_now idle E k i x u g p = elim p [ ]
   shown_now (perform j) E k i x u g p =
       subst (λ a. In a ((run W (perform j ∷ E)).shown i x)) p.0
       (push_new j ((run W E).shown i x) (and_intro (and_intro (ap W.upd p.0 ∙ u) (eqb_of (sym p.1))) (eqb_of (ap W.reg p.0 ∙ g))))
@@ -73,9 +78,9 @@ module _ {U : Values} (W : World U) where
       (push_new j ((run W E).shown i x) (and_intro (and_intro (ap W.upd (ask_inj p.0) ∙ u) (eqb_of (sym p.1))) (eqb_of (ap W.reg (ask_inj p.0) ∙ g))))
   shown_now (deliver (reply j w) c) E k i x u g p = absurd (ask_reply (sym p.0))
 
-  pub in_shown : {E : List (Event U)} {k i x : ℕ} → W.upd k ≡ true → W.reg k ≡ x → Any (Crucial W k i) E → In k ((run W E).shown i x)
-  in_shown {k = k} {i} {x} u g (here {e = e} {E = E} p) = shown_now e E k i x u g p
-  in_shown {k = k} {i} {x} u g (there {e = e} {E = E} h) = shown_on e E k i x (in_shown u g h)
+  pub in_shown : {i : ℕ} {k : ℕ} {E : List (Event U)} {x : ℕ} → W.upd k ≡ true → W.reg k ≡ x → Any (Crucial W k i) E → In k ((run W E).shown i x)
+  in_shown {i = i} {k = k} {x = x} u g (here {e = e} {E = E} p) = shown_now e E k i x u g p
+  in_shown {i = i} {k = k} {x = x} u g (there {e = e} {E = E} h) = shown_on e E k i x (in_shown u g h)
 
   -- ---- what a copy shows is its register's part of what was applied on its card
 

@@ -126,6 +126,12 @@ module _ {U : Values} (W : World U) where
     busy_step idle E cn v o l k h = inl h
 
     reports_fin : (e : Event U) (E : List (Event U)) → Precondition W (run W E) e → Live E → (k : ℕ) → Reports k e → Fin (e ∷ E) k
+    reports_fin (request _) E cn l k p = elim p [ ]
+    reports_fin (perform _) E cn l k p = elim p [ ]
+    reports_fin (send _) E cn l k p = elim p [ ]
+    reports_fin (dispatch _) E cn l k p = elim p [ ]
+    reports_fin (deliver _ _) E cn l k p = elim p [ ]
+    reports_fin idle E cn l k p = elim p [ ]
     reports_fin (report j w) E cn l k p = fin_there (l.ended (W.task j) k (subst (λ s. Ended s k) (sym cn) p))
 
     waits_step : (e : Event U) (E : List (Event U)) → Precondition W (run W E) e → Valid W E → Ordered W rank (e ∷ E) → Live E → (k : ℕ) → Waits ((run W E).status (W.task k)) k
@@ -147,9 +153,21 @@ module _ {U : Values} (W : World U) where
     waits_step idle E cn v o l k h = inl h
 
     pub busy_new : (e : Event U) (E : List (Event U)) (k : ℕ) → Requests k e → Busy ((run W (e ∷ E)).status (W.task k)) k
+    busy_new (perform _) E k p = elim p [ ]
+    busy_new (send _) E k p = elim p [ ]
+    busy_new (dispatch _) E k p = elim p [ ]
+    busy_new (deliver _ _) E k p = elim p [ ]
+    busy_new (report _ _) E k p = elim p [ ]
+    busy_new idle E k p = elim p [ ]
     busy_new (request j) E k p = set (λ s. Busy s k) (W.task j) (asking j) (run W E).status (W.task k) (ap W.task p) p
 
     waits_new : (e : Event U) (E : List (Event U)) (k : ℕ) → Posts k e → Waits ((run W (e ∷ E)).status (W.task k)) k
+    waits_new (request _) E k p = elim p [ ]
+    waits_new (perform _) E k p = elim p [ ]
+    waits_new (dispatch _) E k p = elim p [ ]
+    waits_new (deliver _ _) E k p = elim p [ ]
+    waits_new (report _ _) E k p = elim p [ ]
+    waits_new idle E k p = elim p [ ]
     waits_new (send j) E k p = set (λ s. Waits s k) (W.task j) (waiting j) (run W E).status (W.task k) (ap W.task p) p
 
     pub live_of : (E : List (Event U)) → Valid W E → Ordered W rank E → Live E
@@ -188,6 +206,13 @@ module _ {U : Values} (W : World U) where
     -- ---- a task's operations follow one another: when one is requested, the earlier ones are finished
 
     pub earlier : (E : List (Event U)) → Valid W E → Ordered W rank E → (j k : ℕ) → Any (Requests k) E → j < k → W.task j ≡ W.task k → Fin E j
+    earlier [] v o j k x5 h t = elim x5 [ ]
+    earlier (perform _ ∷ E) v o j k (here p) h t = elim p [ ]
+    earlier (send _ ∷ E) v o j k (here p) h t = elim p [ ]
+    earlier (dispatch _ ∷ E) v o j k (here p) h t = elim p [ ]
+    earlier (deliver _ _ ∷ E) v o j k (here p) h t = elim p [ ]
+    earlier (report _ _ ∷ E) v o j k (here p) h t = elim p [ ]
+    earlier (idle ∷ E) v o j k (here p) h t = elim p [ ]
     earlier (request i ∷ E) v o j k (here p) h t =
         fin_there (go ((live_of E v.1 (ordered_suf W rank (back stop) o)).busy j (requested W E v.1 j (let q = v.0.0 in omega arith))))
       where

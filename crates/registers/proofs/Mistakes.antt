@@ -53,6 +53,7 @@ place_self k (a ∷ l) r = go (eqb a k) (place_self k l r)
 
 -- an element that stands once is not in front of itself
 once_front : (k : ℕ) (l r : List ℕ) → Once (l ++ k ∷ r) → ¬ In k l
+once_front k [] r o x'' = elim x'' [ ]
 once_front k (a ∷ l) r o (here p) = o.0 (subst (λ x. In x (l ++ k ∷ r)) (sym p) (any_right l (here refl)))
 once_front k (a ∷ l) r o (there h) = once_front k l r o.1 h
 

@@ -20,6 +20,7 @@ use Rattle.registers.specs.Layer.{Values, Event, Msg, Precondition, Status, Vali
 module _ {U : Values} (W : World U) (rank : Msg U → ℕ) where
   -- from its request on, until it is reported
   pub present : (E : List (Event U)) → Valid W E → Ordered W rank E → (k : ℕ) → Any (Requests k) E → Busy ((run W E).status (W.task k)) k ⊎ Any (Reports k) E
+  present mathlib.Core.List.[] v o k x3 = elim x3 [ ]
   present (e ∷ E) v o k (here p) = inl (busy_new W rank e E k p)
   present (e ∷ E) v o k (there h) = go (present E v.1 (ordered_suf W rank (back stop) o) k h)
     where
@@ -33,13 +34,23 @@ module _ {U : Values} (W : World U) (rank : Msg U → ℕ) where
 
   -- a report's operation has been requested
   report_asked : (e : Event U) (E : List (Event U)) → Precondition W (run W E) e → Valid W E → Ordered W rank E → (k : ℕ) → Reports k e → Any (Requests k) E
+  report_asked (request _) E cn v o k p = elim p [ ]
+  report_asked (perform _) E cn v o k p = elim p [ ]
+  report_asked (send _) E cn v o k p = elim p [ ]
+  report_asked (dispatch _) E cn v o k p = elim p [ ]
+  report_asked (deliver _ _) E cn v o k p = elim p [ ]
+  report_asked idle E cn v o k p = elim p [ ]
   report_asked (report j w) E cn v o k p = fin_requested W rank E v o ((live_of W rank E v o).ended (W.task j) k (subst (λ s. Ended s k) (sym cn) p))
 
   reported_asked : (E : List (Event U)) → Valid W E → Ordered W rank E → (k : ℕ) → Any (Reports k) E → Any (Requests k) E
+  reported_asked mathlib.Core.List.[] v o k x3 = elim x3 [ ]
   reported_asked (e ∷ E) v o k (here p) = there (report_asked e E v.0 v.1 (ordered_suf W rank (back stop) o) k p)
   reported_asked (e ∷ E) v o k (there h) = there (reported_asked E v.1 (ordered_suf W rank (back stop) o) k h)
 
   waits_busy : (s : Status U) {j k : ℕ} → Waits s j → j ≡ k → Busy s k
+  waits_busy quiet {j = j} {k = k} p q = elim p [ ]
+  waits_busy (asking _) {j = j} {k = k} p q = elim p [ ]
+  waits_busy (done _ _) {j = j} {k = k} p q = elim p [ ]
   waits_busy (waiting i) {j} {k} p q = subst (λ z. i ≡ z) q p
 
   -- only a request makes an operation the present one
@@ -76,10 +87,17 @@ module _ {U : Values} (W : World U) (rank : Msg U → ℕ) where
   was_busy idle E cn v o l k q h = h
 
   now_quiet : (e : Event U) (E : List (Event U)) (k : ℕ) → Reports k e → ¬ Busy ((run W (e ∷ E)).status (W.task k)) k
+  now_quiet (request _) E k p h = elim p [ ]
+  now_quiet (perform _) E k p h = elim p [ ]
+  now_quiet (send _) E k p h = elim p [ ]
+  now_quiet (dispatch _) E k p h = elim p [ ]
+  now_quiet (deliver _ _) E k p h = elim p [ ]
+  now_quiet idle E k p h = elim p [ ]
   now_quiet (report j w) E k p h = clash (eqb_of (ap W.task p)) (stays (λ s. Busy s k) true (W.task j) quiet (run W E).status (W.task k) (λ y. y) h).0
 
   -- and no longer
   pub past : (E : List (Event U)) → Valid W E → Ordered W rank E → (k : ℕ) → Any (Reports k) E → ¬ Busy ((run W E).status (W.task k)) k
+  past mathlib.Core.List.[] v o k x4 h = elim x4 [ ]
   past (e ∷ E) v o k (here p) h = now_quiet e E k p h
   past (e ∷ E) v o k (there r) h =
       let w = ordered_suf W rank (back stop) o in

@@ -24,6 +24,7 @@ module _ {U : Values} (W : World U) where
 
   -- a task's status is about its own operations
   pub busy_task : (E : List (Event U)) (c k : ℕ) → Busy ((run W E).status c) k → W.task k ≡ c
+  busy_task [] c k h = elim h [ ]
   busy_task (request j ∷ E) c k h = task_put true j (asking j) (run W E).status c k (λ x. x) (busy_task E c k) h
   busy_task (perform j ∷ E) c k h = task_put true j (done j _) (run W E).status c k (λ x. x) (busy_task E c k) h
   busy_task (send j ∷ E) c k h = task_put true j (waiting j) (run W E).status c k (λ x. x) (busy_task E c k) h
@@ -46,6 +47,13 @@ module _ {U : Values} (W : World U) where
   count_grows s idle = omega arith
 
   pub below_count : (E : List (Event U)) → Valid W E → (k : ℕ) → Any (Requests k) E → k < (run W E).count
+  below_count [] v k x'' = elim x'' [ ]
+  below_count (perform _ ∷ E) v k (here p) = elim p [ ]
+  below_count (send _ ∷ E) v k (here p) = elim p [ ]
+  below_count (dispatch _ ∷ E) v k (here p) = elim p [ ]
+  below_count (deliver _ _ ∷ E) v k (here p) = elim p [ ]
+  below_count (report _ _ ∷ E) v k (here p) = elim p [ ]
+  below_count (idle ∷ E) v k (here p) = elim p [ ]
   below_count (request j ∷ E) v k (here p) = let q = v.0.0 in omega arith
   below_count (e ∷ E) v k (there h) = let q = below_count E v.1 k h in let g = count_grows (run W E) e in omega arith
 
@@ -101,9 +109,11 @@ module _ {U : Values} (W : World U) where
       }
         where
           f : ¬ Any (Posts k) (request j ∷ E)
+          f (here x7) = elim x7 [ ]
           f (there x) = let y = below_count E v k (b.posted k x) in let z = cn.0 in omega arith
 
           g : ¬ Any (Performs k) (request j ∷ E)
+          g (here x7) = elim x7 [ ]
           g (there x) = let y = below_count E v k (b.performed k x) in let z = cn.0 in omega arith
 
       go : ((true ≡ true) × (W.task j ≡ c) × (j ≡ k)) ⊎ Asks ((run W E).status c) k → Asked (request j ∷ E) c k
@@ -131,12 +141,30 @@ module _ {U : Values} (W : World U) where
   asker E b j k e p = b.asks (W.task k) k (rw (← p, e) refl)
 
   pub posted_step : (e : Event U) (E : List (Event U)) → Precondition W (run W E) e → Base E → (k : ℕ) → Posts k e → Asked E (W.task k) k
+  posted_step (request _) E cn b k p = elim p [ ]
+  posted_step (perform _) E cn b k p = elim p [ ]
+  posted_step (dispatch _) E cn b k p = elim p [ ]
+  posted_step (deliver _ _) E cn b k p = elim p [ ]
+  posted_step (report _ _) E cn b k p = elim p [ ]
+  posted_step idle E cn b k p = elim p [ ]
   posted_step (send j) E cn b k p = asker E b j k cn.0 p
 
   pub performed_step : (e : Event U) (E : List (Event U)) → Precondition W (run W E) e → Base E → (k : ℕ) → Performs k e → Asked E (W.task k) k
+  performed_step (request _) E cn b k p = elim p [ ]
+  performed_step (send _) E cn b k p = elim p [ ]
+  performed_step (dispatch _) E cn b k p = elim p [ ]
+  performed_step (deliver _ _) E cn b k p = elim p [ ]
+  performed_step (report _ _) E cn b k p = elim p [ ]
+  performed_step idle E cn b k p = elim p [ ]
   performed_step (perform j) E cn b k p = asker E b j k cn.0 p
 
   posts_performs : (e : Event U) (k : ℕ) → Posts k e → Performs k e → ⊥
+  posts_performs (request _) k p q = elim p [ ]
+  posts_performs (perform _) k p q = elim p [ ]
+  posts_performs (dispatch _) k p q = elim p [ ]
+  posts_performs (deliver _ _) k p q = elim p [ ]
+  posts_performs (report _ _) k p q = elim p [ ]
+  posts_performs idle k p q = elim p [ ]
   posts_performs (send j) k p q = q
 
   base_step : (e : Event U) (E : List (Event U)) → Precondition W (run W E) e → Valid W E → Base E → Base (e ∷ E)

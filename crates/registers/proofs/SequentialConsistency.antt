@@ -1,14 +1,12 @@
 -- The two halves of 000 put together: what §4 says of a complete run is the promise, the promise holds of every first part of the run, and
 -- over the promise one serial order explains it.
-use mathlib.Core.List.{List}
-use Rattle.lists.specs.Histories.{Suf}
 use Rattle.multicast.proofs.PaperWording.{paper_promise}
 use Rattle.multicast.proofs.PromiseLaws.{promise_suf}
 use Rattle.registers.proofs.Applied.{valid_suf}
 use Rattle.registers.proofs.Values.{serial_values}
 use Rattle.registers.specs.Key.{order}
-use Rattle.registers.specs.Layer.{Values, World, Msg, Event, view}
-use Rattle.registers.specs.SequentialConsistency.{CompleteRun, Theorem5-1}
+use Rattle.registers.specs.Layer.{Values, World, view}
+use Rattle.registers.specs.SequentialConsistency.{Theorem5-1}
 
 module _ {U : Values} (W : World U) where
   pub theorem_5_1 : Theorem5-1 W

@@ -36,6 +36,12 @@ module _ {U : Values} (W : World U) where
           (site W k, any_map (delivers_crucial W k (site W k)) (delivered_reply W rank B (valid_suf W s v) (ordered_suf W rank s o) k w (base W k) h).0.0)
 
       report_done : (e : Event U) (B : List (Event U)) (k : ℕ) → Reports k e → Precondition W (run W B) e → Ended ((run W B).status (W.task k)) k
+      report_done (request _) B k p c = elim p [ ]
+      report_done (perform _) B k p c = elim p [ ]
+      report_done (send _) B k p c = elim p [ ]
+      report_done (dispatch _) B k p c = elim p [ ]
+      report_done (deliver _ _) B k p c = elim p [ ]
+      report_done idle B k p c = elim p [ ]
       report_done (report j w) B k p c = subst (λ a. Ended ((run W B).status (W.task a)) k) p (subst (λ s. Ended s k) (sym c) p)
 
       crucial_reported : {k : ℕ} → Any (Reports k) E → (i : ℕ) × Any (Crucial W k i) E
@@ -53,6 +59,12 @@ module _ {U : Values} (W : World U) where
 
       -- an operation that took effect has the placement of its register
       requests_placed : (e : Event U) (s : State U) (k : ℕ) → Requests k e → Precondition W s e → (i : ℕ) → W.holds k i ≡ W.copy (W.reg k) i
+      requests_placed (perform _) s k p c i = elim p [ ]
+      requests_placed (send _) s k p c i = elim p [ ]
+      requests_placed (dispatch _) s k p c i = elim p [ ]
+      requests_placed (deliver _ _) s k p c i = elim p [ ]
+      requests_placed (report _ _) s k p c i = elim p [ ]
+      requests_placed idle s k p c i = elim p [ ]
       requests_placed (request j) s k p c i = subst (λ a. W.holds a i ≡ W.copy (W.reg a) i) p (c.2 i)
 
       pub lies : {k c : ℕ} → Any (Crucial W k c) E → (i : ℕ) → W.holds k i ≡ W.copy (W.reg k) i
@@ -67,6 +79,12 @@ module _ {U : Values} (W : World U) where
 
       -- an operation takes effect where its register's copies lie
       posted_copy : (e : Event U) (s : State U) (k : ℕ) → Posts k e → Precondition W s e → W.upd k ≡ false → W.holds k (W.chosen k) ≡ true
+      posted_copy (request _) s k p c = elim p [ ]
+      posted_copy (perform _) s k p c = elim p [ ]
+      posted_copy (dispatch _) s k p c = elim p [ ]
+      posted_copy (deliver _ _) s k p c = elim p [ ]
+      posted_copy (report _ _) s k p c = elim p [ ]
+      posted_copy idle s k p c = elim p [ ]
       posted_copy (send j) s k p c = subst (λ a. W.upd a ≡ false → W.holds a (W.chosen a) ≡ true) p c.1
 
       pub at_holder : {k i : ℕ} {B : List (Event U)} → At (Crucial W k i) B E → W.holds k i ≡ true

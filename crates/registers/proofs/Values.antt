@@ -93,6 +93,12 @@ module _ {U : Values} (W : World U) where
     done_found (idle ∷ E) y o c k v h = found_on (done_found E y.1 (ordered_suf W rank (back stop) o) c k v h)
 
     told : (e : Event U) (B : List (Event U)) (k : ℕ) (v : U.Val) → Gives k v e → Precondition W (run W B) e → EndedWith ((run W B).status (W.task k)) k v
+    told (request _) B k v p c = elim p [ ]
+    told (perform _) B k v p c = elim p [ ]
+    told (send _) B k v p c = elim p [ ]
+    told (dispatch _) B k v p c = elim p [ ]
+    told (deliver _ _) B k v p c = elim p [ ]
+    told idle B k v p c = elim p [ ]
     told (report j w) B k v p c = subst (λ a. EndedWith ((run W B).status (W.task a)) k v) p.0 (subst (λ s. EndedWith s k v) (sym c) p)
 
     -- and so was the value that a report gives

@@ -22,6 +22,7 @@ module _ (P : Placement) where
   final_snoc s (b ∷ l) a = final_snoc (after_decoded P s (decode P b)) l a
 
   pub no_six : placement_refusal P ≡ 0 → (before l : List RawStep) (a : Answer) → In a (answers_from P (final_from P begin before) l) → a.result ≢ 6
+  no_six ok before [] a x'' q = elim x'' [ ]
   no_six ok before (b ∷ l) a (here e) q = never_6_answer P ok before b (ap (λ (x : Answer). x.result) e ∙ q)
   no_six ok before (b ∷ l) a (there h) q =
       no_six ok (before ++ (b ∷ [])) l a (subst (λ s. In a (answers_from P s l)) (sym (final_snoc begin before b)) h) q

@@ -2,7 +2,7 @@
 use mathlib.Core.Path.{refl}
 use Rattle.names.specs.Placement.{sizes_in_range}
 use Rattle.runfile.specs.RunFile.{steps_in, file_length, placement_in, sizes_sound, file_refusal}
-use Rattle.runfile.specs.FileMeaning.{AcceptedSizes, SizesAccepted, SizesComputed}
+use Rattle.runfile.specs.FileMeaning.{SizesAccepted, SizesComputed}
 use Rattle.runfile.proofs.RunFileLaws.{accepted_tasks, accepted_registers, accepted_primaries, accepted_steps}
 
 pub sizes_accepted : SizesAccepted

@@ -1,7 +1,6 @@
 -- What the answer file's definitions mean (RULES 4.1, 4.9), stated apart from them: a definition that were wrong in code and claim alike would
 -- fail here.
 use Rattle.std.specs.Prelude.{ℕ, ◌+◌, ◌*◌, ◌≤◌, ◌<◌, ◌≡◌, ◌↔◌, ◌⊎◌, ◌≢◌, List, [], ◌∷◌, length, get_or}
-use Rattle.names.specs.declared.Answer.{Answer}
 use Rattle.runfile.specs.RunFile.{two_bytes}
 use Rattle.runfile.specs.AnswerFile.{four_bytes, answer_bytes, write_refusal}
 

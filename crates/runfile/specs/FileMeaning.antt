@@ -1,6 +1,5 @@
 -- What a run file's first five bytes mean (RULES 3.1), stated apart from the definitions that read them.
 use Rattle.std.specs.Prelude.{ℕ, ◌+◌, ◌*◌, ◌≡◌, List, [], ◌∷◌, length, get_or}
-use Rattle.runfile.specs.declared.Sizes.{Sizes}
 use Rattle.runfile.specs.RunFile.{placement_in, run_file_in, sizes_in, file_refusal}
 
 -- an accepted file's sizes are its placement's: bytes 0 to 2, and bytes 3 and 4, low byte first, the number of steps

@@ -1,4 +1,6 @@
 // Run files and answer files (RULES 3, 4). A run file is read where it lies: nothing of it is copied.
+#![tactic(auto)]
+
 ghost use Rattle.std.specs.Prelude.{◌≡◌, ◌+◌, ◌≤◌, ◌<◌, get_or, length};
 ghost use Rattle.lists.specs.Parts.{part};
 ghost use Rattle.names.specs.Placement.{home, holders, primary, placed};
@@ -17,7 +19,7 @@ pub use file_head::head;
 pub use run::{answer, reply, start};
 
 // The sizes that a run file gives first.
-#[derive(Drop)]
+#[derive(Clone, Copy)]
 pub struct Sizes {
     pub cards: u32,
     pub registers: u32,
@@ -26,7 +28,7 @@ pub struct Sizes {
 }
 
 // What is said of a whole run: 0 and how many steps were taken and refused, or the refusal of the file or of the output, and no steps.
-#[derive(Drop)]
+#[derive(Clone, Copy)]
 pub struct Answered {
     pub refusal: u8,
     pub taken: u32,
@@ -34,14 +36,14 @@ pub struct Answered {
 }
 
 // What is said of tables: 0 and the length of their run file, or the refusal of the tables or of the output, and 0.
-#[derive(Drop)]
+#[derive(Clone, Copy)]
 pub struct Composed {
     pub refusal: u8,
     pub length: u32,
 }
 
 // What the reader says of a file: accepted, with its sizes, or refused with its number.
-#[derive(Drop)]
+#[derive(Clone, Copy)]
 pub enum Judgement {
     Accepted(Sizes),
     Refused(u8),

@@ -1,5 +1,7 @@
 // Runs K11, K12 and the stored files through the store, and compares what it writes with stored answers that an independent model worked out
 // (README). Then K13, in calls beyond one file. A line for each; `stdout` is what the rules ask.
+#![tactic(auto)]
+
 mod calls;
 mod files;
 

@@ -1,5 +1,7 @@
 // Reads an answer file (RULES 4) from standard input and writes a sentence for each refused step, then how many steps were taken and refused. An
 // input that is no answer file gets a message, and nothing is written.
+#![tactic(auto)]
+
 use console::{put, tell};
 use names::placement::byte;
 use names::wide;

@@ -1,5 +1,5 @@
 -- A state is ill sized exactly if one of the listed kinds holds: the channel's kinds by its own law, the registers' test by test.
-use Prim.Native.Nat.{ℕ, ◌+◌, ◌-◌, ◌<◌, ◌≤◌, ◌^◌, min}
+use Prim.Native.Nat.{ℕ, ◌<◌, ◌^◌, min}
 use mathlib.Core.Path.{◌≡◌, refl, subst}
 use mathlib.Core.Logic.{◌⊎◌, inl, inr}
 use mathlib.Core.Bool.{Bool, true, false, ◌&&◌}
@@ -7,7 +7,6 @@ use mathlib.Core.List.{List}
 use native.Mathlib.Omega.{arith}
 use borrow.Author.Tests.{ltb-true, ltb-false, leb-false}
 use lib.Dec.{ltb, leb}
-use lib.ListN.{get_or}
 use Rattle.lists.specs.Tests.{clash, false_of, and_fst, and_snd}
 use Rattle.lists.specs.Conjunctions.{and_fails}
 use Rattle.lists.specs.Every.{each, each_failing}

@@ -1,9 +1,8 @@
 -- The runs that meet the limits, computed.
-use Prim.Native.Nat.{ℕ}
 use mathlib.Core.Path.{◌≡◌, refl, ap, ◌∙◌}
 use mathlib.Core.List.{List, map}
 use lib.Dec.{eqb, leb}
-use lib.ListN.{length, replicate}
+use lib.ListN.{length}
 use Rattle.lists.specs.Every.{each}
 use Rattle.lists.specs.Loops.{total, turns}
 use Rattle.names.specs.CardSet.{just_of, member_of, several, single, size_of, sole_of}

@@ -23,7 +23,7 @@ use Rattle.claims.specs.Found.{Found, set_copy, performing, stage}
 use Rattle.tables.specs.declared.Doing.{Doing}
 use Rattle.tables.specs.declared.Doing.TheVariants.{Quiet, AskingRead, AskingUpdate, Waiting, DoneRead, DoneUpdate}
 use Rattle.tables.specs.Layout.{copy_word, home_of, holds, copy_of}
-use Rattle.tables.specs.Doings.{doing_at, doing_stored}
+use Rattle.tables.specs.Doings.{doing_at}
 use Rattle.store.specs.Perform.{alone, perform_read_number, perform_read_words, perform_update_number, copy_updated_at, copy_updated, perform_update_words, perform_number_of, perform_words_of, perform_number, perform_words}
 use Rattle.tables.specs.Sized.{doing_fits}
 use Rattle.store.specs.Step.{outcome}

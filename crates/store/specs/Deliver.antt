@@ -1,5 +1,5 @@
 -- Step 9 (RULES 5.9), the four messages in the order of 000 Figure 5.
-use Rattle.std.specs.Prelude.{ℕ, zero, suc, Bool, true, false, cond, ◌&&◌, not, List, eqb}
+use Rattle.std.specs.Prelude.{ℕ, Bool, cond, ◌&&◌, not, List, eqb}
 use Rattle.names.specs.declared.Card.{Card}
 use Rattle.names.specs.declared.Body.{Body}
 use Rattle.names.specs.declared.Body.TheVariants.{ReadDo, ReadReply, UpdateDo, UpdateReply}
@@ -7,7 +7,6 @@ use Rattle.names.specs.declared.Message.{Message}
 use Rattle.channel.specs.declared.Received.{Received}
 use Rattle.channel.specs.declared.Received.TheVariants.{Got, NoSuchCard, Empty}
 use Rattle.channel.specs.Inbox.{receive_answer, receive_memory}
-use Rattle.tables.specs.declared.Doing.{Doing}
 use Rattle.tables.specs.declared.Doing.TheVariants.{DoneRead, DoneUpdate}
 use Rattle.tables.specs.Layout.{Place, card_after_card, copy_at, home_of, primary_of, holds, only_card}
 use Rattle.tables.specs.Doings.{doing_stored}

@@ -1,5 +1,5 @@
 -- Step 3 (RULES 5.3).
-use Rattle.std.specs.Prelude.{ℕ, zero, suc, Bool, true, false, cond, ◌&&◌, not, List, get_or, set}
+use Rattle.std.specs.Prelude.{ℕ, Bool, cond, ◌&&◌, not, List, set}
 use Rattle.names.specs.CardSet.{several}
 use Rattle.names.specs.Update.{updated}
 use Rattle.tables.specs.declared.Doing.{Doing}

@@ -1,5 +1,5 @@
 -- Steps 1 and 2: the quiet task now asks (RULES 5.1, 5.2). Step 10: the done task becomes quiet (5.10).
-use Rattle.std.specs.Prelude.{ℕ, zero, suc, ◌+◌, Bool, true, false, cond, List, eqb, ltb, set}
+use Rattle.std.specs.Prelude.{ℕ, ◌+◌, Bool, true, false, cond, List, eqb, ltb, set}
 use Rattle.names.specs.declared.Answer.{Answer}
 use Rattle.names.specs.Results.{is_taken}
 use Rattle.tables.specs.declared.Doing.{Doing}

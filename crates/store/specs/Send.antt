@@ -1,5 +1,5 @@
 -- Steps 4 and 5 (RULES 5.4, 5.5): a message joins the outbox of the task's home, and the task waits.
-use Rattle.std.specs.Prelude.{ℕ, zero, suc, Bool, true, false, cond, ◌&&◌, not, List, eqb, leb}
+use Rattle.std.specs.Prelude.{ℕ, cond, ◌&&◌, not, List, eqb, leb}
 use Rattle.names.specs.declared.Body.{Body}
 use Rattle.names.specs.declared.Body.TheVariants.{ReadDo, UpdateDo}
 use Rattle.tables.specs.declared.Doing.{Doing}

@@ -1,5 +1,5 @@
 -- A step on the two memories, whatever they are: its answer, and both memories after it (RULES 5.1 to 5.10, 8.5).
-use Rattle.std.specs.Prelude.{ℕ, Bool, true, false, cond, List}
+use Rattle.std.specs.Prelude.{ℕ, cond, List}
 use Rattle.names.specs.declared.Answer.{Answer}
 use Rattle.channel.specs.Layout.{cards_of, tasks_of, registers_of}
 use Rattle.channel.specs.Answers.{answer_number}

@@ -1,5 +1,5 @@
 -- Step 6 (RULES 5.6): the head of a card's outbox is dispatched; the channel's part is the channel's own. Steps 7 and 8 are the channel's alone.
-use Rattle.std.specs.Prelude.{ℕ, zero, suc, Bool, true, false, cond, List, eqb}
+use Rattle.std.specs.Prelude.{ℕ, cond, List, eqb}
 use Rattle.names.specs.declared.Card.{Card}
 use Rattle.names.specs.declared.Letter.{Letter}
 use Rattle.names.specs.Results.{is_taken}

@@ -1,5 +1,7 @@
 // The sums of a run, for a panel: reads a run file from standard input, and prints a line for each register, with the sum of each card's group
 // in the register's log and the total (RULES 16.8). A refused file is one line. README.md says it column by column.
+#![tactic(auto)]
+
 use console::{pad, put, right, say, tell, tell_one};
 use names::{Register, wide};
 use totals::{card_sums, total_by_card};

@@ -1,6 +1,6 @@
 -- What a task asks for, where its register is present and its function known: it has room in the task's word, and the tests on the word's fields
 -- say the same.
-use Prim.Native.Nat.{ℕ, ◌+◌, ◌*◌, ◌/◌, ◌%◌, ◌<◌, ◌≤◌}
+use Prim.Native.Nat.{ℕ, ◌+◌, ◌*◌, ◌/◌, ◌%◌}
 use mathlib.Core.Path.{◌≡◌, refl, ap, ◌∙◌}
 use mathlib.Core.Bool.{Bool, true, false, cond, not, ◌&&◌, ◌||◌}
 use mathlib.Core.List.{List}
@@ -10,7 +10,6 @@ use borrow.Author.Tests.{ltb-true, leb-true, ne_eqb}
 use lib.Dec.{eqb, ltb, leb}
 use lib.ListN.{get_or}
 use Rattle.lists.specs.Tests.{and_fst, and_snd}
-use Rattle.names.specs.declared.Register.{Register}
 use Rattle.names.specs.Update.{known_function}
 use Rattle.channel.specs.Layout.{cards_of, registers_of}
 use Rattle.channel.specs.declared.Limits.{Limits}

@@ -11,7 +11,7 @@ use lib.ListN.{get_or}
 use Rattle.names.specs.declared.Card.{Card}
 use Rattle.names.specs.declared.Task.{Task}
 use Rattle.names.specs.declared.Register.{Register}
-use Rattle.names.specs.Placement.{Placement, tasks, registers}
+use Rattle.names.specs.Placement.{Placement, registers}
 use Rattle.channel.specs.Layout.{cards_of, tasks_of, registers_of}
 use Rattle.claims.specs.Found.{Found, quiet}
 use Rattle.tables.specs.Layout.{copy_word, home_in, primary_in, holders_in, copy_of}

@@ -1,12 +1,11 @@
 -- Registers' memories that agree where a part is read show the same of it; and which words each change leaves.
-use Prim.Native.Nat.{ℕ, suc, ◌+◌, ◌-◌, ◌*◌, ◌/◌, ◌%◌, ◌<◌, ◌≤◌}
+use Prim.Native.Nat.{ℕ, suc, ◌+◌, ◌%◌, ◌<◌, ◌≤◌}
 use mathlib.Core.Path.{◌≡◌, refl, sym, ap, ap₂, ◌∙◌}
 use mathlib.Core.Logic.{◌≢◌}
 use mathlib.Core.List.{List, [], ◌∷◌, ◌++◌}
 use native.Mathlib.Numerals.{add-one}
 use native.Mathlib.Decide.{ℕ_discrete}
 use native.Mathlib.Omega.{arith}
-use borrow.Author.Tests.{lt-ltb, ne_eqb}
 use lib.ListN.{length, get_or, set, length-set}
 use lib.Seq.{get_or-set_same, get_or-set_other}
 use Rattle.lists.specs.Listings.{listing_snoc, listing_cons, listing_cong}
@@ -18,7 +17,7 @@ use Rattle.tables.specs.declared.Doing.{Doing}
 use Rattle.tables.specs.declared.Doing.TheVariants.{Quiet, AskingRead, AskingUpdate, Waiting, DoneRead, DoneUpdate}
 use Rattle.tables.specs.Layout.{task_word, value_word, home_in, home_of, out_head_word, out_count_word, out_block}
 use Rattle.tables.specs.Doings.{doing_of, doing_kind, doing_register, doing_function, doing_value, doing_kind_in, asked_in, doing_function_in, task_word_of, DoingPacks, doing_in, doing_at, doing_stored}
-use Rattle.tables.specs.Outbox.{out_head_of, out_count_of, out_place, roomy, posted, first_packet, first_out, unposted}
+use Rattle.tables.specs.Outbox.{out_head_of, out_count_of, out_place, posted, first_packet, first_out, unposted}
 use Rattle.tables.specs.Shows.{plain, outbox_of}
 
 -- ---- what a task is doing

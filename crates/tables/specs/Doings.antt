@@ -1,6 +1,6 @@
 -- What a task is doing (RULES 1.8; 000 Figure 5: status(c)), in two words (11.12): kind, register and function in one, from its lowest digit on
 -- and below the task's home; the value in the other. A kind past the last counts as the last (11.9).
-use Rattle.std.specs.Prelude.{ℕ, zero, suc, ◌+◌, ◌*◌, ◌/◌, ◌%◌, ◌<◌, Bool, true, false, cond, List, eqb, get_or, set}
+use Rattle.std.specs.Prelude.{ℕ, ◌+◌, ◌*◌, ◌/◌, ◌%◌, ◌<◌, cond, List, eqb, get_or, set}
 use Rattle.names.specs.declared.Register.{Register}
 use Rattle.tables.specs.declared.Doing.{Doing}
 use Rattle.tables.specs.declared.Doing.TheVariants.{Quiet, AskingRead, AskingUpdate, Waiting, DoneRead, DoneUpdate}

@@ -1,5 +1,5 @@
 -- A card's outbox, a ring of 16 packets, first in, first out (RULES 5.11), for at most 16 messages (7.1).
-use Rattle.std.specs.Prelude.{ℕ, zero, suc, ◌+◌, ◌-◌, ◌*◌, ◌%◌, Bool, true, false, cond, List, eqb, ltb, get_or, set}
+use Rattle.std.specs.Prelude.{ℕ, ◌+◌, ◌%◌, Bool, List, ltb, get_or}
 use Rattle.names.specs.declared.Body.{Body}
 use Rattle.names.specs.declared.Letter.{Letter}
 use Rattle.names.specs.declared.Packet.{Packet}

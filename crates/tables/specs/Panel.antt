@@ -1,5 +1,5 @@
 -- What the memories say to one who looks (RULES 11.6, 11.7): 0 and quiet for an absent card, task or register.
-use Rattle.std.specs.Prelude.{ℕ, Bool, true, false, cond, ◌&&◌, List, ltb}
+use Rattle.std.specs.Prelude.{ℕ, cond, ◌&&◌, List, ltb}
 use Rattle.lists.specs.Listings.{listing}
 use Rattle.names.specs.declared.Card.{Card}
 use Rattle.names.specs.declared.Task.{Task}

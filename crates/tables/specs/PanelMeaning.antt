@@ -10,7 +10,7 @@ use Rattle.tables.specs.declared.Doing.TheVariants.{Quiet, AskingUpdate, DoneUpd
 use Rattle.tables.specs.Layout.{Place, side_by_side, card_after_card, home_in, primary_in, holders_in, copy_at, copy_of, requests_of}
 use Rattle.tables.specs.Doings.{doing_kind_in, asked_in, doing_function_in, task_word_of, doing_in, doing_value}
 use Rattle.tables.specs.Panel.{value_shown_at, copies_shown_at, doing_shown}
-use Rattle.tables.specs.Shows.{status_of, StoreShows}
+use Rattle.tables.specs.Shows.{status_of}
 
 -- of memories that show placement P and state s
 pub record PanelMeaningAt (place : Place) (rs cs : List ℕ) (P : Placement) (s : Found) : Type 0 where

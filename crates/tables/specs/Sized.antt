@@ -1,6 +1,6 @@
 -- Well-sized memories: what a step must find, else it is refused with 6 (RULES 8.6, parts a to k). The parts of absent cards, tasks and
 -- registers are not looked at.
-use Rattle.std.specs.Prelude.{ℕ, ◌+◌, ◌*◌, ◌%◌, ◌^◌, min, Bool, true, false, not, ◌&&◌, ◌||◌, List, eqb, ltb, leb, get_or}
+use Rattle.std.specs.Prelude.{ℕ, ◌^◌, min, Bool, true, not, ◌&&◌, ◌||◌, List, eqb, ltb, leb, get_or}
 use Rattle.lists.specs.Every.{each}
 use Rattle.names.specs.Update.{known_function}
 use Rattle.channel.specs.Layout.{cards_of, tasks_of, registers_of}

@@ -1,7 +1,7 @@
 -- The start from a placement (RULES 10.2, 10.3).
-use Rattle.std.specs.Prelude.{ℕ, zero, suc, ◌+◌, ◌*◌, ◌%◌, Bool, true, false, cond, List, eqb, get_or, set, replicate}
+use Rattle.std.specs.Prelude.{ℕ, ◌+◌, ◌*◌, ◌%◌, cond, List, eqb, get_or, set, replicate}
 use Rattle.lists.specs.Loops.{turns}
-use Rattle.names.specs.Placement.{Placement, tasks, registers, home, holders, primary, placement_refusal}
+use Rattle.names.specs.Placement.{Placement, tasks, registers, placement_refusal}
 use Rattle.channel.specs.Begin.{begin_memory}
 use Rattle.tables.specs.Layout.{task_word, register_word}
 

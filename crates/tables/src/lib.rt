@@ -1,5 +1,7 @@
 // The registers' memory, an array of words that the caller lends: where things lie (specs/Layout), what a task is doing, the outboxes, the
 // start, the check that refusal 6 for the state asks for, and what a panel shows.
+#![tactic(auto)]
+
 use names::Register;
 
 pub mod begin;
@@ -10,7 +12,7 @@ pub mod panel;
 pub mod sized;
 
 // What a task is doing (000, Figure 5: status).
-#[derive(Drop)]
+#[derive(Clone, Copy)]
 pub enum Doing {
     Quiet,
     // a read of a register is to be performed or sent

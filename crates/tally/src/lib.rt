@@ -1,11 +1,13 @@
 // A tally of steps taken and steps refused, lent by its owner and brought up to date in place.
+#![tactic(auto)]
+
 ghost use Rattle.std.specs.Prelude.{◌≡◌};
 ghost use Rattle.tally.specs.Tally.{tally_of, counted};
 
 use names::raise;
 
 #[repr(C)]
-#[derive(Drop)]
+#[derive(Clone, Copy)]
 pub struct Tally {
     pub taken: u32,
     pub refused: u32,

@@ -1,10 +1,12 @@
 // The total of a log: of the updates of a register by function 5 the home card of each one's task, and its operand, in two parallel lists
 // (RULES 16). Two readings, and both give the same.
+#![tactic(auto)]
+
 ghost use Rattle.std.specs.Prelude.{min, ◌≡◌};
 ghost use Rattle.totals.specs.Totals.{added, summed, card_added, card_sums, cards_known, log_number, log_refusal, total_of, total_by_card};
 
 // The refusal, 0 where there is none, and the total, 0 where it is refused.
-#[derive(Drop)]
+#[derive(Clone, Copy)]
 pub struct Totalled {
     pub refusal: u8,
     pub total: u32,

@@ -1,5 +1,7 @@
 // A readable view of a run, for a panel or a class: reads a run file from standard input, and prints its sizes, its placement, a line for each
 // step with what the store answers, and how many steps were taken and refused. A refused file is one line. README.md says it column by column.
+#![tactic(auto)]
+
 ghost use Rattle.std.specs.Prelude.{◌<◌};
 
 mod answered;

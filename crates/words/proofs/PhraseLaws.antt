@@ -1,5 +1,5 @@
 -- The table of phrases: where a number is found, that all are plain, that no two are alike. Each is one decided check of the table.
-use Prim.Native.Nat.{ℕ, zero, suc, ◌+◌, ◌≤◌, ◌<◌}
+use Prim.Native.Nat.{ℕ, ◌≤◌, ◌<◌}
 use mathlib.Core.Path.{◌≡◌, refl, sym, ap, subst, ◌∙◌}
 use mathlib.Core.Bool.{Bool, true, false, cond, not, ◌&&◌, ◌||◌}
 use mathlib.Core.List.{List, [], ◌∷◌, ◌++◌}
@@ -9,7 +9,7 @@ use lib.ListN.{length}
 use borrow.Author.Tests.{eqb-true, leb-true, ltb-true, ltb-false, lt-leb}
 use Rattle.lists.specs.Tests.{eqb_refl, eqb_not, and_intro, and_false}
 use Rattle.lists.specs.Every.{each, each_at}
-use Rattle.lists.specs.All.{all, all_nil, all_head, all_tail}
+use Rattle.lists.specs.All.{all, all_head, all_tail}
 use Rattle.words.specs.Phrases.{of_bytes, of_tasks, of_moves, phrases, found, phrase_of, silent}
 use Rattle.words.specs.Meaning.{is_letter, numbered}
 

@@ -1,4 +1,6 @@
 // Refusals in words, for a panel: "step 12: the card has nothing to deliver" (RULES 14).
+#![tactic(auto)]
+
 ghost use Rattle.std.specs.Prelude.{◌+◌, ◌≤◌, ◌≡◌, ◌++◌, length};
 ghost use Rattle.std.proofs.lemmas.List.Edits.{sets};
 ghost use Rattle.words.specs.Bytes.{bytes_of};
@@ -12,7 +14,7 @@ mod text;
 use text::{copy, decimal, put};
 
 // The refusal, 0 where there is none, and the text's length, 0 where it is refused.
-#[derive(Drop)]
+#[derive(Clone, Copy)]
 pub struct Said {
     pub refusal: u8,
     pub length: u32,

@@ -1,7 +1,7 @@
 // A text put together in a room of 64 bytes, and copied to an output.
 ghost use Rattle.std.specs.Prelude.{◌+◌, ◌≤◌, ◌<◌, ◌≡◌, ◌++◌, length, drop};
 ghost use Rattle.std.proofs.lemmas.List.Edits.{sets};
-ghost use Rattle.words.specs.Decimal.{decimal as Decimal·decimal};
+ghost use Rattle.words.specs.Decimal.{decimal};
 
 // Some bytes from a place on; answers the place behind them.
 pub(crate) fn put(text: &mut [u8; 64], at: usize, bytes: &[u8]) -> usize
@@ -19,9 +19,9 @@ pub(crate) fn put(text: &mut [u8; 64], at: usize, bytes: &[u8]) -> usize
 
 // A number in decimal; answers the place behind it.
 pub(crate) fn decimal(n: u32, text: &mut [u8; 64], at: usize) -> usize
-    requires { at + length (Decimal·decimal n) ≤ 64 }
-    ensures value { result ≡ at + length (Decimal·decimal n) }
-    ensures text_after { text.new ≡ sets text.old at (Decimal·decimal n) }
+    requires { at + length (decimal n) ≤ 64 }
+    ensures value { result ≡ at + length (decimal n) }
+    ensures text_after { text.new ≡ sets text.old at (decimal n) }
 {
     if n < 10 {
         text[at] = 48 + n as u8;

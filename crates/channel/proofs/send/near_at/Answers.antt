@@ -1,0 +1,6 @@
+use Rattle.channel.specs.Dispatch.{near_at}
+use Rattle.channel.proofs.send.near_at.Goals as goal
+
+pub returns : goal.returns
+unfolding near_at
+returns c = rw (← c.taken_of.ensures, ← c.made.ensures, ← c.wide-taken.ensures.0, ← c.wide-last.ensures.0)

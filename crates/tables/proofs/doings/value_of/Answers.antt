@@ -1,0 +1,28 @@
+use Rattle.lists.specs.Tests.{cases}
+use Rattle.tables.specs.Doings.{doing_value}
+use borrow.Author.Rules.{rules}
+use Rattle.tables.proofs.doings.value_of.Goals as goal
+
+pub returns-in-Quiet : goal.returns-in-Quiet
+unfolding doing_value
+returns-in-Quiet c = search (rules, cases)
+
+pub returns-in-AskingRead : goal.returns-in-AskingRead
+unfolding doing_value
+returns-in-AskingRead c = search (rules, cases)
+
+pub returns-in-AskingUpdate : goal.returns-in-AskingUpdate
+unfolding doing_value
+returns-in-AskingUpdate c = search (rules, cases)
+
+pub returns-in-Waiting : goal.returns-in-Waiting
+unfolding doing_value
+returns-in-Waiting c = search (rules, cases)
+
+pub returns-in-DoneRead : goal.returns-in-DoneRead
+unfolding doing_value
+returns-in-DoneRead c = search (rules, cases)
+
+pub returns-in-DoneUpdate : goal.returns-in-DoneUpdate
+unfolding doing_value
+returns-in-DoneUpdate c = search (rules, cases)

@@ -1,0 +1,13 @@
+use mathlib.Core.Path.{sym, ap, ◌∙◌}
+use borrow.Author.Tests.{ne_eqb}
+use Rattle.totals.specs.Totals.{summed, total_by_card}
+use Rattle.totals.proofs.total_by_card.Goals as goal
+
+pub returns-then-number-ne0 : goal.returns-then-number-ne0
+unfolding total_by_card
+returns-then-number-ne0 c = let n = c.refusal-number.ensures in rw (← n, ne_eqb _ _ c.if-number-ne0.true)
+
+pub returns : goal.returns
+unfolding total_by_card
+returns c = let z = sym c.refusal-number.ensures ∙ c.if-number-ne0.false in
+    rw z (ap (λ t. record { refusal = 0; total = t }) (c.sum_of.ensures ∙ ap summed c.card_sums-sums.ensures))
