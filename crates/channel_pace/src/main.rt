@@ -4,6 +4,7 @@
 
 use channel::Received;
 use names::{Body, Card, Letter, Message, Packet, Register, Task};
+use std::process::ExitCode;
 
 fn update(value: u32) -> Message {
     Message {
@@ -88,11 +89,11 @@ fn sum_of_all(memory: &mut [u32; channel::WORDS]) -> u32 {
     sum
 }
 
-fn main() {
+fn main(rt: HostRuntime) -> ExitCode {
     let mut memory = [0u32; channel::WORDS];
     let sum = sum_of_all(&mut memory);
-    let mut page = io::large_buffer();
-    let a = console::count(&mut page, 0, sum);
-    let b = console::put(&mut page, a, b'\n');
-    console::finish(&page, b, b"channel_pace");
+    let mut page = [0u8; 65536];
+    let a = console::count(rt.stdout(), &mut page, 0, sum);
+    let b = console::put(rt.stdout(), &mut page, a, b'\n');
+    console::finish(rt.stdout(), rt.stderr(), &page, b, b"channel_pace")
 }

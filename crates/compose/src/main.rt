@@ -9,6 +9,8 @@ mod words;
 use console::{prefix, tell_one};
 use lines::{Text, ended, with_line};
 use names::wide;
+use std::io::{Print, Stderr, Stdin};
+use std::process::ExitCode;
 use words::part;
 
 fn with_byte(text: Text, byte: u8, line: &mut [u8; 255], table: &mut [u8; 36944]) -> Text {
@@ -70,45 +72,48 @@ fn with_end(text: Text, line: &[u8; 255], table: &mut [u8; 36944]) -> Text {
     counted(with)
 }
 
-// One piece of the input. The last does not fill the buffer.
-fn with_piece(text: Text, line: &mut [u8; 255], table: &mut [u8; 36944]) -> Text {
-    let mut input = io::large_buffer();
-    let n = io::read_full(0, &mut input);
-    if !console::read_whole(n, &input) {
-        return ended(text, lines::UNREAD);
-    }
-    let with = with_bytes(text, &input[..n], line, table);
-    if n == 65536 {
+// The last piece does not fill the buffer.
+fn with_read(text: Text, piece: &[u8], line: &mut [u8; 255], table: &mut [u8; 36944]) -> Text {
+    let with = with_bytes(text, piece, line, table);
+    if piece.len() == 65536 {
         return with;
     }
     with_end(with, line, table)
 }
 
-// The longest text is read: whether the input ends.
-fn after_longest(text: Text, line: &[u8; 255], table: &mut [u8; 36944]) -> Text {
-    let mut one = [0u8; 1];
-    let n = libc::read(0, &mut one);
-    if n == 0 {
-        return with_end(text, line, table);
+// One piece of the input.
+fn with_piece(stdin: Stdin, text: Text, line: &mut [u8; 255], table: &mut [u8; 36944]) -> Text {
+    let mut from = stdin;
+    let mut input = [0u8; 65536];
+    match console::read_whole(&mut from, &mut input) {
+        Ok(n) => with_read(text, &input[..n], line, table),
+        Err(_) => ended(text, lines::UNREAD),
     }
-    if n < 0 {
-        return ended(text, lines::UNREAD);
-    }
-    ended(text, lines::TOO_LONG)
 }
 
-fn read(table: &mut [u8; 36944]) -> Text {
+// The longest text is read: whether the input ends.
+fn after_longest(stdin: Stdin, text: Text, line: &[u8; 255], table: &mut [u8; 36944]) -> Text {
+    let mut from = stdin;
+    let mut one = [0u8; 1];
+    match console::read_whole(&mut from, &mut one) {
+        Ok(0) => with_end(text, line, table),
+        Ok(_) => ended(text, lines::TOO_LONG),
+        Err(_) => ended(text, lines::UNREAD),
+    }
+}
+
+fn read(stdin: Stdin, table: &mut [u8; 36944]) -> Text {
     let mut line = [0u8; 255];
     let mut text = lines::begun();
     let mut pieces: u32 = 0;
     while pieces < 64 {
-        text = with_piece(text, &mut line, table);
+        text = with_piece(stdin, text, &mut line, table);
         if text.state != lines::READING {
             return text;
         }
         pieces += 1;
     }
-    after_longest(text, &line, table)
+    after_longest(stdin, text, &line, table)
 }
 
 fn composed(text: Text, table: &[u8; 36944], out: &mut [u8; 36949]) -> runfile::Composed {
@@ -126,81 +131,78 @@ fn composed(text: Text, table: &[u8; 36944], out: &mut [u8; 36949]) -> runfile::
 }
 
 // What is gathered in the page is the message.
-fn failed(page: &[u8; 65536], at: usize) {
-    console::failed(b"compose", prefix(page, at));
+fn failed(stderr: Stderr, page: &[u8; 65536], at: usize) -> ExitCode {
+    console::failed(stderr, b"compose", prefix(page, at))
 }
 
 // Message k of a list, for a line.
-fn wrong_line(messages: &[u8], k: u32, line: u32) {
-    let mut page = io::large_buffer();
-    let at = tell_one(&mut page, 0, console::word_of(messages, k), line);
-    failed(&page, at);
+fn wrong_line(rt: HostRuntime, messages: &[u8], k: u32, line: u32) -> ExitCode {
+    let mut page = [0u8; 65536];
+    let message = console::word_of(messages, k);
+    let at = tell_one(rt.stdout(), &mut page, 0, message, line);
+    failed(rt.stderr(), &page, at)
 }
 
 // The refusal stands behind what is gathered.
-fn refused(page: &mut [u8; 65536], at: usize, number: u32) {
-    let next = console::refused_file(page, at, number);
-    failed(page, next);
+fn refused(rt: HostRuntime, page: &mut [u8; 65536], at: usize, number: u32) -> ExitCode {
+    let next = console::refused_file(rt.stdout(), page, at, number);
+    failed(rt.stderr(), page, next)
 }
 
-fn refused_line(line: u32, number: u32) {
-    let mut page = io::large_buffer();
-    let at = tell_one(&mut page, 0, b": line #: ", line);
-    refused(&mut page, at, number);
+fn refused_line(rt: HostRuntime, line: u32, number: u32) -> ExitCode {
+    let mut page = [0u8; 65536];
+    let at = tell_one(rt.stdout(), &mut page, 0, b": line #: ", line);
+    refused(rt, &mut page, at, number)
 }
 
-fn refused_text(number: u32) {
-    let mut page = io::large_buffer();
-    let at = console::say(&mut page, 0, b": ");
-    refused(&mut page, at, number);
+fn refused_text(rt: HostRuntime, number: u32) -> ExitCode {
+    let mut page = [0u8; 65536];
+    let at = console::say(rt.stdout(), &mut page, 0, b": ");
+    refused(rt, &mut page, at, number)
 }
 
-fn written(out: &[u8; 36949], length: u32) -> bool {
-    io::write_all(1, prefix(out, wide(length)))
-}
-
-fn write(text: Text, table: &[u8; 36944]) {
+fn write(rt: HostRuntime, text: Text, table: &[u8; 36944]) -> ExitCode {
     let mut out = [0u8; 36949];
     let file = composed(text, table, &mut out);
     if file.refusal != 0 {
-        refused_text(file.refusal as u32);
-        return;
+        return refused_text(rt, file.refusal as u32);
     }
-    if !written(&out, file.length) {
-        console::unwritten(b"compose");
+    match rt.stdout().write_all(prefix(&out, wide(file.length))) {
+        Ok(()) => ExitCode::SUCCESS,
+        Err(_) => console::unwritten(rt.stderr(), b"compose"),
     }
 }
 
-fn finish(text: Text, table: &[u8; 36944]) {
+fn finish(rt: HostRuntime, text: Text, table: &[u8; 36944]) -> ExitCode {
     if text.state == lines::WHOLE {
-        write(text, table);
-        return;
+        return write(rt, text, table);
     }
     if text.state == lines::UNREAD {
-        console::unread(b"compose");
-        return;
+        return console::unread(rt.stderr(), b"compose");
     }
     if text.state == lines::TOO_LONG {
-        console::failed(b"compose", b": the text is longer than 4194304 bytes");
-        return;
+        return console::failed(
+            rt.stderr(),
+            b"compose",
+            b": the text is longer than 4194304 bytes",
+        );
     }
     if text.state == lines::OUT_OF_RANGE {
-        refused_line(text.line, 3);
-        return;
+        return refused_line(rt, text.line, 3);
     }
     if text.state == lines::MISPLACED {
-        refused_line(text.line, 4);
-        return;
+        return refused_line(rt, text.line, 4);
     }
     wrong_line(
+        rt,
         b";: line # is not understood;: line # is out of place;: line # is one too many;: line # counts otherwise than the text",
         text.state,
         text.line,
-    );
+    )
 }
 
-fn main() {
+fn main(rt: HostRuntime) -> ExitCode {
     let mut table = [0u8; 36944];
-    let text = read(&mut table);
-    finish(text, &table);
+    let text = read(rt.stdin(), &mut table);
+    finish(rt, text, &table)
 }

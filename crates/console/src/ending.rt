@@ -1,38 +1,49 @@
-// Input that cannot be read or used, output that cannot be written: the program says so on standard error and ends with a status that is not 0.
+// Input that cannot be read or used, output that cannot be written: the program says so on standard error and ends with a status that is not 0,
+// which is what `main` returns.
+ghost use Rattle.std.specs.Prelude.{◌≡◌, ◌≤◌, length, IfOk};
+ghost use Rattle.std.specs.Process.{exit_status};
 
-// `main` gives no status, a crate may declare no function of C's, and the kit has none that ends a program. But a frame that does not fit
-// ends it: calls 65,536 bytes apart pass any stack up to 256 MiB, and the guard page below it is met (signal 11, status 139 in a shell).
-fn stop(depth: u32) {
-    if depth == 0 {
-        return;
+use std::io;
+use std::io::{Print, Read, Stderr};
+use std::process::ExitCode;
+
+fn tell_why(stderr: Stderr, name: &[u8], why: &[u8]) -> io::Result<()> {
+    stderr.write_all(name)?;
+    stderr.write_all(why)?;
+    stderr.write_all(b"\n")
+}
+
+// A program says why it cannot go on. Where it cannot say so either, the status still tells.
+pub fn failed(stderr: Stderr, name: &[u8], why: &[u8]) -> ExitCode
+    ensures { exit_status result ≡ 1 }
+{
+    let _ = tell_why(stderr, name, why);
+    ExitCode::FAILURE
+}
+
+// Reads an input to its end or until the buffer is full: how many bytes it put at the start of the buffer.
+pub fn read_whole(input: &mut impl Read, buffer: &mut [u8]) -> io::Result<usize>
+    ensures { IfOk result (λ n. n ≤ length buffer.new) }
+{
+    let mut done: usize = 0;
+    while done < buffer.len() {
+        let n = input.read(&mut buffer[done..])?;
+        if n == 0 {
+            return Ok(done);
+        }
+        done += n;
     }
-    let frame = io::large_buffer();
-    stop(depth - 1);
-    libc::write(-1, &frame);
+    Ok(done)
 }
 
-// A program says why it cannot go on, and ends.
-pub fn failed(name: &[u8], why: &[u8]) {
-    io::write_all(2, name);
-    io::write_all(2, why);
-    io::write_all(2, b"; ending by a fault, so that the status tells\n");
-    stop(4096);
+pub fn unread(stderr: Stderr, name: &[u8]) -> ExitCode
+    ensures { exit_status result ≡ 1 }
+{
+    failed(stderr, name, b": the input cannot be read")
 }
 
-// Whether `io::read_full`, which stops at an end and at a failed read alike, has read standard input to its end or filled the buffer: at an
-// end one more read gives nothing again.
-pub fn read_whole(n: usize, buffer: &[u8]) -> bool {
-    if n == buffer.len() {
-        return true;
-    }
-    let mut one = [0u8; 1];
-    libc::read(0, &mut one) == 0
-}
-
-pub fn unread(name: &[u8]) {
-    failed(name, b": the input cannot be read");
-}
-
-pub fn unwritten(name: &[u8]) {
-    failed(name, b": standard output cannot be written");
+pub fn unwritten(stderr: Stderr, name: &[u8]) -> ExitCode
+    ensures { exit_status result ≡ 1 }
+{
+    failed(stderr, name, b": standard output cannot be written")
 }

@@ -10,47 +10,56 @@ mod refusals;
 mod words;
 
 pub use ending::{failed, read_whole, unread, unwritten};
+use itoa::Buffer;
 pub use pieces::{prefix, with_digit};
 pub use refusals::refused_file;
+use std::io::{Print, Stderr, Stdout};
+use std::process::ExitCode;
 pub use words::{column, is_empty, tell, tell_one, word, word_of};
 
 // The page is full, or a write has failed before.
-fn turn(page: &mut [u8; 65536], at: usize, byte: u8) -> usize {
+fn turn(stdout: Stdout, page: &mut [u8; 65536], at: usize, byte: u8) -> usize {
     if 65536 < at {
         return at;
     }
-    if !io::write_all(1, page) {
+    if stdout.write_all(page).is_err() {
         return 65537;
     }
     page[0] = byte;
     1
 }
 
-pub fn put(page: &mut [u8; 65536], at: usize, byte: u8) -> usize {
+pub fn put(stdout: Stdout, page: &mut [u8; 65536], at: usize, byte: u8) -> usize {
     if at < 65536 {
         page[at] = byte;
         return at + 1;
     }
-    turn(page, at, byte)
+    turn(stdout, page, at, byte)
 }
 
-pub fn say(page: &mut [u8; 65536], at: usize, text: &[u8]) -> usize {
+pub fn say(stdout: Stdout, page: &mut [u8; 65536], at: usize, text: &[u8]) -> usize {
     let mut next = at;
     let mut i: usize = 0;
     while i < text.len() {
-        next = put(page, next, text[i]);
+        next = put(stdout, page, next, text[i]);
         i += 1;
     }
     next
 }
 
 // The first n bytes of a room, or all of it.
-pub fn first(page: &mut [u8; 65536], at: usize, text: &[u8; 64], n: usize) -> usize {
+pub fn first(
+    stdout: Stdout,
+    page: &mut [u8; 65536],
+    at: usize,
+    text: &[u8; 64],
+    n: usize,
+) -> usize {
     let mut next = at;
     let mut i: usize = 0;
     while i < 64 {
         if i < n {
-            next = put(page, next, text[i]);
+            next = put(stdout, page, next, text[i]);
         }
         i += 1;
     }
@@ -58,61 +67,73 @@ pub fn first(page: &mut [u8; 65536], at: usize, text: &[u8; 64], n: usize) -> us
 }
 
 // A number in decimal.
-pub fn size(page: &mut [u8; 65536], at: usize, n: usize) -> usize {
-    let mut digits = [0u8; 20];
-    let k = io::decimal(n as u64, &mut digits);
-    say(page, at, &digits[..k])
+pub fn size(stdout: Stdout, page: &mut [u8; 65536], at: usize, n: usize) -> usize {
+    let mut digits = Buffer::new();
+    say(stdout, page, at, digits.format(n).as_bytes())
 }
 
-pub fn count(page: &mut [u8; 65536], at: usize, n: u32) -> usize {
-    size(page, at, n as usize)
+pub fn count(stdout: Stdout, page: &mut [u8; 65536], at: usize, n: u32) -> usize {
+    size(stdout, page, at, n as usize)
 }
 
-// A byte in hexadecimal.
-pub fn hex(page: &mut [u8; 65536], at: usize, n: u32) -> usize {
-    let mut digits = [0u8; 16];
-    let k = io::hex(n as u64, 2, &mut digits);
-    say(page, at, &digits[..k])
+// A byte in hexadecimal: two digits, and more for a larger number.
+pub fn hex(stdout: Stdout, page: &mut [u8; 65536], at: usize, n: u32) -> usize {
+    let mut next = at;
+    let mut i: u32 = 8;
+    while 0 < i {
+        i -= 1;
+        let rest = n >> (4 * i);
+        if (i < 2) | (0 < rest) {
+            next = put(stdout, page, next, b"0123456789abcdef"[rest as usize % 16]);
+        }
+    }
+    next
 }
 
 // Spaces after what is so long, up to a width.
-pub fn pad(page: &mut [u8; 65536], at: usize, long: usize, width: usize) -> usize {
+pub fn pad(stdout: Stdout, page: &mut [u8; 65536], at: usize, long: usize, width: usize) -> usize {
     let mut next = at;
     let mut i = long;
     while i < width {
-        next = put(page, next, b' ');
+        next = put(stdout, page, next, b' ');
         i += 1;
     }
     next
 }
 
 // A number at the right of a column.
-pub fn right(page: &mut [u8; 65536], at: usize, n: u32, width: usize) -> usize {
-    let mut digits = [0u8; 20];
-    let k = io::decimal(n as u64, &mut digits);
-    let next = pad(page, at, k, width);
-    say(page, next, &digits[..k])
+pub fn right(stdout: Stdout, page: &mut [u8; 65536], at: usize, n: u32, width: usize) -> usize {
+    let mut digits = Buffer::new();
+    let text = digits.format(n).as_bytes();
+    let next = pad(stdout, page, at, text.len(), width);
+    say(stdout, page, next, text)
 }
 
 // A number at the left of a column.
-pub fn left(page: &mut [u8; 65536], at: usize, n: u32, width: usize) -> usize {
-    let mut digits = [0u8; 20];
-    let k = io::decimal(n as u64, &mut digits);
-    let next = say(page, at, &digits[..k]);
-    pad(page, next, k, width)
+pub fn left(stdout: Stdout, page: &mut [u8; 65536], at: usize, n: u32, width: usize) -> usize {
+    let mut digits = Buffer::new();
+    let text = digits.format(n).as_bytes();
+    let next = say(stdout, page, at, text);
+    pad(stdout, page, next, text.len(), width)
 }
 
-fn rest_written(page: &[u8], at: usize) -> bool {
+fn rest_written(stdout: Stdout, page: &[u8], at: usize) -> bool {
     if page.len() < at {
         return false;
     }
-    io::write_all(1, &page[..at])
+    stdout.write_all(&page[..at]).is_ok()
 }
 
-// What is left in the page is written. Where a write has failed, the program of that name ends (`unwritten`).
-pub fn finish(page: &[u8; 65536], at: usize, name: &[u8]) {
-    if rest_written(page, at) {
-        return;
+// What is left in the page is written, and the program of that name ends well. Where a write has failed, it ends otherwise (`unwritten`).
+pub fn finish(
+    stdout: Stdout,
+    stderr: Stderr,
+    page: &[u8; 65536],
+    at: usize,
+    name: &[u8],
+) -> ExitCode {
+    if rest_written(stdout, page, at) {
+        return ExitCode::SUCCESS;
     }
-    unwritten(name);
+    unwritten(stderr, name)
 }

@@ -2,6 +2,7 @@
 ghost use Rattle.std.specs.Prelude.{◌≤◌, length};
 
 use crate::{count, pad, say};
+use std::io::Stdout;
 
 // The words still to be passed over, after a byte.
 fn passed(words: u32, byte: u8) -> u32 {
@@ -57,33 +58,46 @@ pub fn is_empty(list: &[u8], k: u32) -> bool {
     word_of(list, k).len() == 0
 }
 
-pub fn word(page: &mut [u8; 65536], at: usize, list: &[u8], k: u32) -> usize {
-    say(page, at, word_of(list, k))
+pub fn word(stdout: Stdout, page: &mut [u8; 65536], at: usize, list: &[u8], k: u32) -> usize {
+    say(stdout, page, at, word_of(list, k))
 }
 
 // The same in a column.
-pub fn column(page: &mut [u8; 65536], at: usize, list: &[u8], k: u32, width: usize) -> usize {
+pub fn column(
+    stdout: Stdout,
+    page: &mut [u8; 65536],
+    at: usize,
+    list: &[u8],
+    k: u32,
+    width: usize,
+) -> usize {
     let word = word_of(list, k);
-    let next = say(page, at, word);
-    pad(page, next, word.len(), width)
+    let next = say(stdout, page, at, word);
+    pad(stdout, page, next, word.len(), width)
 }
 
-fn nth(page: &mut [u8; 65536], at: usize, numbers: &[u32], k: usize) -> usize {
+fn nth(stdout: Stdout, page: &mut [u8; 65536], at: usize, numbers: &[u32], k: usize) -> usize {
     if k < numbers.len() {
-        return count(page, at, numbers[k]);
+        return count(stdout, page, at, numbers[k]);
     }
     at
 }
 
 // A text with the next number at each `#`.
-pub fn tell(page: &mut [u8; 65536], at: usize, text: &[u8], numbers: &[u32]) -> usize {
+pub fn tell(
+    stdout: Stdout,
+    page: &mut [u8; 65536],
+    at: usize,
+    text: &[u8],
+    numbers: &[u32],
+) -> usize {
     let mut next = at;
     let mut from: usize = 0;
     let mut k: usize = 0;
     while from < text.len() {
         let end = end_of(text, from, b'#');
-        let a = say(page, next, &text[from..end]);
-        next = nth(page, a, numbers, k);
+        let a = say(stdout, page, next, &text[from..end]);
+        next = nth(stdout, page, a, numbers, k);
         from = end + 1;
         k += 1;
     }
@@ -91,6 +105,12 @@ pub fn tell(page: &mut [u8; 65536], at: usize, text: &[u8], numbers: &[u32]) -> 
 }
 
 // A text with one number, at its `#`.
-pub fn tell_one(page: &mut [u8; 65536], at: usize, text: &[u8], number: u32) -> usize {
-    tell(page, at, text, &[number])
+pub fn tell_one(
+    stdout: Stdout,
+    page: &mut [u8; 65536],
+    at: usize,
+    text: &[u8],
+    number: u32,
+) -> usize {
+    tell(stdout, page, at, text, &[number])
 }

@@ -4,20 +4,22 @@
 // (runfile, specs/FileRun, `long-file`), so a longer input gets its right number too.
 #![tactic(auto)]
 
-fn answer(file: &[u8]) {
+use std::io::Print;
+use std::process::ExitCode;
+
+fn answer(rt: HostRuntime, file: &[u8]) -> ExitCode {
     let mut out = [0u8; 20482];
     let count = runfile::reply(file, &mut out);
-    if !io::write_all(1, &out[..count]) {
-        console::unwritten(b"gondzselu");
+    match rt.stdout().write_all(&out[..count]) {
+        Ok(()) => ExitCode::SUCCESS,
+        Err(_) => console::unwritten(rt.stderr(), b"gondzselu"),
     }
 }
 
-fn main() {
-    let mut input = io::large_buffer();
-    let n = io::read_full(0, &mut input);
-    if !console::read_whole(n, &input) {
-        console::unread(b"gondzselu");
-        return;
+fn main(rt: HostRuntime) -> ExitCode {
+    let mut input = [0u8; 65536];
+    match console::read_whole(&mut rt.stdin(), &mut input) {
+        Ok(n) => answer(rt, &input[..n]),
+        Err(_) => console::unread(rt.stderr(), b"gondzselu"),
     }
-    answer(&input[..n]);
 }

@@ -13,46 +13,47 @@ mod answers;
 mod files;
 mod text;
 
-fn act(page: &mut [u8; 65536], at: usize, kind: u8, bytes: &[u8]) -> usize {
+use std::io::Stdout;
+use std::process::ExitCode;
+
+fn act(stdout: Stdout, page: &mut [u8; 65536], at: usize, kind: u8, bytes: &[u8]) -> usize {
     if kind == b'w' {
-        return answers::write(page, at, bytes);
+        return answers::write(stdout, page, at, bytes);
     }
-    files::show(page, at, kind, bytes)
+    files::show(stdout, page, at, kind, bytes)
 }
 
-fn sample(page: &mut [u8; 65536], at: usize, line: &[u8]) -> usize {
+fn sample(stdout: Stdout, page: &mut [u8; 65536], at: usize, line: &[u8]) -> usize {
     if line.len() < 2 {
         return at;
     }
     let colon = text::end_of(line, 2, b':');
-    let a = text::title(page, at, &line[2..colon]);
-    act(page, a, line[0], &line[colon..])
+    let a = text::title(stdout, page, at, &line[2..colon]);
+    act(stdout, page, a, line[0], &line[colon..])
 }
 
-fn samples(page: &mut [u8; 65536], input: &[u8]) -> usize {
+fn samples(stdout: Stdout, page: &mut [u8; 65536], input: &[u8]) -> usize {
     let mut next: usize = 0;
     let mut from: usize = 0;
     while from < input.len() {
         let end = text::end_of(input, from, b'\n');
-        let a = sample(page, next, &input[from..end]);
-        next = console::put(page, a, b'\n');
+        let a = sample(stdout, page, next, &input[from..end]);
+        next = console::put(stdout, page, a, b'\n');
         from = end + 1;
     }
     next
 }
 
-fn judge(input: &[u8]) {
-    let mut page = io::large_buffer();
-    let at = samples(&mut page, input);
-    console::finish(&page, at, b"judge");
+fn judge(rt: HostRuntime, input: &[u8]) -> ExitCode {
+    let mut page = [0u8; 65536];
+    let at = samples(rt.stdout(), &mut page, input);
+    console::finish(rt.stdout(), rt.stderr(), &page, at, b"judge")
 }
 
-fn main() {
-    let mut input = io::large_buffer();
-    let n = io::read_full(0, &mut input);
-    if !console::read_whole(n, &input) {
-        console::unread(b"judge");
-        return;
+fn main(rt: HostRuntime) -> ExitCode {
+    let mut input = [0u8; 65536];
+    match console::read_whole(&mut rt.stdin(), &mut input) {
+        Ok(n) => judge(rt, &input[..n]),
+        Err(_) => console::unread(rt.stderr(), b"judge"),
     }
-    judge(&input[..n]);
 }

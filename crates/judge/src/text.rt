@@ -1,27 +1,27 @@
 // What a line of the input gives, and what is said of it.
 ghost use Rattle.std.specs.Prelude.{◌≤◌, ◌<◌, length};
-ghost use Rattle.io.specs.Counts.{IsPrefixLen};
 
 use console::{hex, put, say};
 use names::placement::byte;
 use names::wide;
+use std::io::Stdout;
 
-pub(crate) fn title(page: &mut [u8; 65536], at: usize, name: &[u8]) -> usize {
-    let a = say(page, at, name);
-    say(page, a, b": ")
+pub(crate) fn title(stdout: Stdout, page: &mut [u8; 65536], at: usize, name: &[u8]) -> usize {
+    let a = say(stdout, page, at, name);
+    say(stdout, page, a, b": ")
 }
 
 // A byte in hexadecimal, after a space.
-fn shown(page: &mut [u8; 65536], at: usize, n: u32) -> usize {
-    let a = put(page, at, b' ');
-    hex(page, a, n)
+fn shown(stdout: Stdout, page: &mut [u8; 65536], at: usize, n: u32) -> usize {
+    let a = put(stdout, page, at, b' ');
+    hex(stdout, page, a, n)
 }
 
-pub(crate) fn show(page: &mut [u8; 65536], at: usize, bytes: &[u8]) -> usize {
+pub(crate) fn show(stdout: Stdout, page: &mut [u8; 65536], at: usize, bytes: &[u8]) -> usize {
     let mut next = at;
     let mut i: usize = 0;
     while i < bytes.len() {
-        next = shown(page, next, byte(bytes, i));
+        next = shown(stdout, page, next, byte(bytes, i));
         i += 1;
     }
     next
@@ -89,7 +89,7 @@ pub(crate) fn smaller(a: usize, b: usize) -> usize
 
 // The bytes at the start of some room, to the length that the line has, or as many as there is room for.
 pub(crate) fn fill(room: &mut [u8], bytes: &[u8]) -> usize
-    ensures { IsPrefixLen result room.new }
+    ensures { result ≤ length room.new }
 {
     let m = smaller(number(bytes, 2), room.len());
     let mut k: usize = 0;

@@ -3,6 +3,10 @@
 #![tactic(auto)]
 
 use console::{prefix, say, with_digit};
+use std::env::FillError;
+use std::io::{Print, Stderr};
+use std::process::ExitCode;
+use std::rt::Env;
 
 // Larger than any number where the text is none.
 fn number_of(text: &[u8]) -> u64 {
@@ -19,66 +23,83 @@ fn number_of(text: &[u8]) -> u64 {
 }
 
 // An argument of one to ten digits. One that is missing or longer is read as empty.
-fn argument(i: usize) -> u64 {
+fn argument(rt: HostRuntime, i: usize) -> u64 {
     let mut text = [0u8; 10];
-    let n = os::arg(i, &mut text);
-    number_of(&text[..n])
+    match rt.arg(i, &mut text) {
+        Ok(n) => number_of(&text[..n]),
+        Err(_) => number_of(b""),
+    }
+}
+
+fn is_given(rt: HostRuntime, i: usize) -> bool {
+    let mut text = [0u8; 1];
+    match rt.arg(i, &mut text) {
+        Err(FillError::NotPresent) => false,
+        _ => true,
+    }
 }
 
 // What is gathered in the page is the message.
-fn failed(page: &[u8; 65536], at: usize) {
-    console::failed(b"load", prefix(page, at));
+fn failed(stderr: Stderr, page: &[u8; 65536], at: usize) -> ExitCode {
+    console::failed(stderr, b"load", prefix(page, at))
 }
 
-fn refused(number: u32) {
-    let mut page = io::large_buffer();
-    let next = say(&mut page, 0, b": ");
-    let at = console::refused_file(&mut page, next, number);
-    failed(&page, at);
+fn refused(rt: HostRuntime, number: u32) -> ExitCode {
+    let mut page = [0u8; 65536];
+    let next = say(rt.stdout(), &mut page, 0, b": ");
+    let at = console::refused_file(rt.stdout(), &mut page, next, number);
+    failed(rt.stderr(), &page, at)
 }
 
-fn draw(file: &[u8], seed: u32, steps: u32) {
+fn draw(rt: HostRuntime, file: &[u8], seed: u32, steps: u32) -> ExitCode {
     let mut out = [0u8; 36949];
     let load = loads::load_for(seed, file, steps, &mut out);
     if load.refusal != 0 {
-        refused(load.refusal as u32);
-        return;
+        return refused(rt, load.refusal as u32);
     }
-    if !io::write_all(1, prefix(&out, load.length as usize)) {
-        console::unwritten(b"load");
+    match rt.stdout().write_all(prefix(&out, load.length as usize)) {
+        Ok(()) => ExitCode::SUCCESS,
+        Err(_) => console::unwritten(rt.stderr(), b"load"),
     }
 }
 
 // An input that fills the buffer is longer than any file that is accepted, and what is read of it gets its number: 3 or 2.
-fn read(seed: u32, steps: u32) {
-    let mut input = io::large_buffer();
-    let n = io::read_full(0, &mut input);
-    if !console::read_whole(n, &input) {
-        console::unread(b"load");
-        return;
+fn read(rt: HostRuntime, seed: u32, steps: u32) -> ExitCode {
+    let mut input = [0u8; 65536];
+    match console::read_whole(&mut rt.stdin(), &mut input) {
+        Ok(n) => draw(rt, &input[..n], seed, steps),
+        Err(_) => console::unread(rt.stderr(), b"load"),
     }
-    draw(&input[..n], seed, steps);
 }
 
-fn go(seed: u64, steps: u64) -> bool {
+fn numbers(seed: u64, steps: u64) -> Option<(u32, u32)> {
     if 4294967295 < seed {
-        return false;
+        return None;
     }
     if 4096 < steps {
-        return false;
+        return None;
     }
-    read(seed as u32, steps as u32);
-    true
+    Some((seed as u32, steps as u32))
 }
 
-fn main() {
-    if os::arg_count() == 3 {
-        if go(argument(1), argument(2)) {
-            return;
-        }
+// The seed and the number of steps, if there are two arguments and these are they. Argument 0 is the program's name.
+fn asked(rt: HostRuntime) -> Option<(u32, u32)> {
+    if !is_given(rt, 2) {
+        return None;
     }
-    console::failed(
-        b"load",
-        b": two numbers are wanted, a seed up to 4294967295 and how many steps, up to 4096",
-    );
+    if is_given(rt, 3) {
+        return None;
+    }
+    numbers(argument(rt, 1), argument(rt, 2))
+}
+
+fn main(rt: HostRuntime) -> ExitCode {
+    match asked(rt) {
+        Some((seed, steps)) => read(rt, seed, steps),
+        None => console::failed(
+            rt.stderr(),
+            b"load",
+            b": two numbers are wanted, a seed up to 4294967295 and how many steps, up to 4096",
+        ),
+    }
 }

@@ -1,6 +1,7 @@
 // K13: request 65,535 passes, the next gives 23. Only calls beyond one file reach it.
 use console::{tell, tell_one};
 use names::{Card, Register};
+use std::io::Stdout;
 
 fn add(x: u32, y: u32) -> u32 {
     std::num::wrapping_add_u32(x, y)
@@ -57,6 +58,7 @@ fn read_often(registers: &mut [u32; 593], channel: &mut [u32; channel::WORDS]) -
 
 // What a request gives now.
 fn one_more(
+    stdout: Stdout,
     page: &mut [u8; 65536],
     at: usize,
     registers: &mut [u32; 593],
@@ -64,19 +66,25 @@ fn one_more(
 ) -> usize {
     let answer = store::step(registers, channel, 1, [0; 8]);
     let numbers = [store::requests(registers), answer.result as u32];
-    tell(page, at, b", requests #, one more gives #", &numbers)
+    tell(
+        stdout,
+        page,
+        at,
+        b", requests #, one more gives #",
+        &numbers,
+    )
 }
 
 // One card, one register, one task.
-pub(crate) fn reads(page: &mut [u8; 65536], at: usize) -> usize {
+pub(crate) fn reads(stdout: Stdout, page: &mut [u8; 65536], at: usize) -> usize {
     let mut registers = [0u32; 593];
     let mut channel = [0u32; channel::WORDS];
     store::start(&mut registers, &mut channel, 1, b"\x00", b"\x01", b"\x00");
     let taken = read_often(&mut registers, &mut channel);
     let text = b"k13    65535 rounds of 3 steps, taken #";
-    let a = tell_one(page, at, text, taken);
-    let b = one_more(page, a, &mut registers, &mut channel);
-    console::say(page, b, b"\n")
+    let a = tell_one(stdout, page, at, text, taken);
+    let b = one_more(stdout, page, a, &mut registers, &mut channel);
+    console::say(stdout, page, b, b"\n")
 }
 
 // Task 0 adds 1 to register 0: an update that both cards take and deliver.
@@ -106,6 +114,7 @@ fn broadcast_often(registers: &mut [u32; 593], channel: &mut [u32; channel::WORD
 }
 
 fn copies(
+    stdout: Stdout,
     page: &mut [u8; 65536],
     at: usize,
     registers: &[u32; 593],
@@ -113,17 +122,17 @@ fn copies(
 ) -> usize {
     let first = store::value(registers, channel, Card(0), Register(0));
     let second = store::value(registers, channel, Card(1), Register(0));
-    tell(page, at, b", copies # and #\n", &[first, second])
+    tell(stdout, page, at, b", copies # and #\n", &[first, second])
 }
 
 // Two cards with a copy each: broadcast numbers end with the requests.
-pub(crate) fn broadcasts(page: &mut [u8; 65536], at: usize) -> usize {
+pub(crate) fn broadcasts(stdout: Stdout, page: &mut [u8; 65536], at: usize) -> usize {
     let mut registers = [0u32; 593];
     let mut channel = [0u32; channel::WORDS];
     store::start(&mut registers, &mut channel, 2, b"\x00", b"\x03", b"\x00");
     let taken = broadcast_often(&mut registers, &mut channel);
     let text = b"k13    65535 broadcasts in rounds of 8 steps, taken #";
-    let a = tell_one(page, at, text, taken);
-    let b = one_more(page, a, &mut registers, &mut channel);
-    copies(page, b, &registers, &channel)
+    let a = tell_one(stdout, page, at, text, taken);
+    let b = one_more(stdout, page, a, &mut registers, &mut channel);
+    copies(stdout, page, b, &registers, &channel)
 }

@@ -1,28 +1,18 @@
 // A stored run and its stored answer.
-ghost use Rattle.io.specs.Counts.{IsPrefixLen};
-ghost use Rattle.std.specs.Prelude.{◌≤◌};
+ghost use Rattle.std.specs.Prelude.{◌≤◌, length, IfOk};
 
 use console::{say, tell, tell_one};
 use names::placement::byte;
 use names::wide;
+use std::io::Stdout;
+use std::{fs, io};
 
-// Where a file of the folder that the program runs in cannot be opened, the program ends.
-fn opened(path: &[u8]) -> i32 {
-    let fd = os::open_read(path);
-    if fd < 0 {
-        console::unread(b"runs");
-    }
-    fd
-}
-
-// A file at the start of a buffer.
-fn read(path: &[u8], buffer: &mut [u8]) -> usize
-    ensures { IsPrefixLen result buffer.new }
+// A file of the folder that the program runs in, at the start of a buffer.
+fn read(rt: HostRuntime, path: &str, buffer: &mut [u8]) -> io::Result<usize>
+    ensures { IfOk result (λ n. n ≤ length buffer.new) }
 {
-    let fd = opened(path);
-    let n = io::read_full(fd, buffer);
-    libc::close(fd);
-    n
+    let mut file = fs::open(&rt, path)?;
+    console::read_whole(&mut file, buffer)
 }
 
 // Byte i of an output that was all 165 before the answer was written to its start.
@@ -72,50 +62,57 @@ fn times(out: &[u8], number: u32) -> u32 {
 }
 
 // A number that refuses and occurs.
-fn say_if_occurs(page: &mut [u8; 65536], at: usize, out: &[u8], number: u32) -> usize {
+fn say_if_occurs(
+    stdout: Stdout,
+    page: &mut [u8; 65536],
+    at: usize,
+    out: &[u8],
+    number: u32,
+) -> usize {
     if names::is_taken((number % 256) as u8) {
         return at;
     }
     if times(out, number) == 0 {
         return at;
     }
-    tell_one(page, at, b" #", number)
+    tell_one(stdout, page, at, b" #", number)
 }
 
 // The refusals that occur.
-fn refusals(page: &mut [u8; 65536], at: usize, out: &[u8]) -> usize {
-    let mut next = say(page, at, b", with");
+fn refusals(stdout: Stdout, page: &mut [u8; 65536], at: usize, out: &[u8]) -> usize {
+    let mut next = say(stdout, page, at, b", with");
     let mut number: u32 = 1;
     while number < 256 {
-        next = say_if_occurs(page, next, out, number);
+        next = say_if_occurs(stdout, page, next, out, number);
         number += 1;
     }
     next
 }
 
-fn differs(page: &mut [u8; 65536], at: usize, out: &[u8], answer: &[u8]) -> usize {
+fn differs(stdout: Stdout, page: &mut [u8; 65536], at: usize, out: &[u8], answer: &[u8]) -> usize {
     let i = difference(out, answer);
     if i == out.len() {
-        return say(page, at, b": agrees\n");
+        return say(stdout, page, at, b": agrees\n");
     }
-    let a = say(page, at, b": differs at byte ");
-    let b = console::size(page, a, i);
-    say(page, b, b"\n")
+    let a = say(stdout, page, at, b": differs at byte ");
+    let b = console::size(stdout, page, a, i);
+    say(stdout, page, b, b"\n")
 }
 
-fn verdict(page: &mut [u8; 65536], at: usize, out: &[u8], answer: &[u8]) -> usize {
+fn verdict(stdout: Stdout, page: &mut [u8; 65536], at: usize, out: &[u8], answer: &[u8]) -> usize {
     if answer.len() != 2 + 5 * wide(steps(out)) {
-        return say(page, at, b": differs in length\n");
+        return say(stdout, page, at, b": differs in length\n");
     }
-    differs(page, at, out, answer)
+    differs(stdout, page, at, out, answer)
 }
 
-fn refused_file(page: &mut [u8; 65536], at: usize, refusal: u8) -> usize {
-    tell_one(page, at, b" file refused #\n", refusal as u32)
+fn refused_file(stdout: Stdout, page: &mut [u8; 65536], at: usize, refusal: u8) -> usize {
+    tell_one(stdout, page, at, b" file refused #\n", refusal as u32)
 }
 
 // What is said of an accepted file.
 fn told(
+    stdout: Stdout,
     page: &mut [u8; 65536],
     at: usize,
     out: &[u8],
@@ -124,32 +121,55 @@ fn told(
     refused: u32,
 ) -> usize {
     let numbers = [steps(out), taken, times(out, 100), refused];
-    let a = tell(page, at, b" steps #, taken # (held #), refused #", &numbers);
-    let b = refusals(page, a, out);
-    verdict(page, b, out, answer)
+    let a = tell(
+        stdout,
+        page,
+        at,
+        b" steps #, taken # (held #), refused #",
+        &numbers,
+    );
+    let b = refusals(stdout, page, a, out);
+    verdict(stdout, page, b, out, answer)
 }
 
 // The file is answered, and the answer compared.
-fn compare(page: &mut [u8; 65536], at: usize, file: &[u8], answer: &[u8], out: &mut [u8]) -> usize {
+fn compare(
+    stdout: Stdout,
+    page: &mut [u8; 65536],
+    at: usize,
+    file: &[u8],
+    answer: &[u8],
+    out: &mut [u8],
+) -> usize {
     let answered = runfile::answer(file, out);
     if answered.refusal != 0 {
-        return refused_file(page, at, answered.refusal);
+        return refused_file(stdout, page, at, answered.refusal);
     }
-    told(page, at, out, answer, answered.taken, answered.refused)
+    told(
+        stdout,
+        page,
+        at,
+        out,
+        answer,
+        answered.taken,
+        answered.refused,
+    )
 }
 
+// An error where one of the two files cannot be read.
 pub(crate) fn run(
+    rt: HostRuntime,
     page: &mut [u8; 65536],
     at: usize,
     name: &[u8],
-    file: &[u8],
-    answer: &[u8],
-) -> usize {
-    let mut input = io::large_buffer();
-    let mut stored = io::large_buffer();
+    file: &str,
+    answer: &str,
+) -> io::Result<usize> {
+    let mut input = [0u8; 65536];
+    let mut stored = [0u8; 65536];
     let mut out = [165u8; 20482];
-    let n = read(file, &mut input);
-    let m = read(answer, &mut stored);
-    let a = say(page, at, name);
-    compare(page, a, &input[..n], &stored[..m], &mut out)
+    let n = read(rt, file, &mut input)?;
+    let m = read(rt, answer, &mut stored)?;
+    let a = say(rt.stdout(), page, at, name);
+    Ok(compare(rt.stdout(), page, a, &input[..n], &stored[..m], &mut out))
 }

@@ -6,39 +6,48 @@ mod calls;
 mod files;
 
 use files::run;
+use std::io;
+use std::process::ExitCode;
 
-fn limits(page: &mut [u8; 65536], at: usize) -> usize {
-    let a = run(page, at, b"k11   ", b"k11.run", b"k11.answer");
-    let b = run(page, a, b"k12   ", b"k12.run", b"k12.answer");
-    let c = run(page, b, b"behind", b"behind.run", b"behind.answer");
-    let d = run(page, c, b"outbox", b"outbox.run", b"outbox.answer");
-    let e = run(page, d, b"inbox ", b"inbox.run", b"inbox.answer");
-    let f = run(page, e, b"held  ", b"held.run", b"held.answer");
-    run(page, f, b"counts", b"counts.run", b"counts.answer")
+fn limits(rt: HostRuntime, page: &mut [u8; 65536], at: usize) -> io::Result<usize> {
+    let a = run(rt, page, at, b"k11   ", "k11.run", "k11.answer")?;
+    let b = run(rt, page, a, b"k12   ", "k12.run", "k12.answer")?;
+    let c = run(rt, page, b, b"behind", "behind.run", "behind.answer")?;
+    let d = run(rt, page, c, b"outbox", "outbox.run", "outbox.answer")?;
+    let e = run(rt, page, d, b"inbox ", "inbox.run", "inbox.answer")?;
+    let f = run(rt, page, e, b"held  ", "held.run", "held.answer")?;
+    run(rt, page, f, b"counts", "counts.run", "counts.answer")
 }
 
-fn past(page: &mut [u8; 65536], at: usize) -> usize {
-    let a = run(page, at, b"past1 ", b"past1.run", b"past1.answer");
-    let b = run(page, a, b"past2 ", b"past2.run", b"past2.answer");
-    let c = run(page, b, b"past3 ", b"past3.run", b"past3.answer");
-    run(page, c, b"past4 ", b"past4.run", b"past4.answer")
+fn past(rt: HostRuntime, page: &mut [u8; 65536], at: usize) -> io::Result<usize> {
+    let a = run(rt, page, at, b"past1 ", "past1.run", "past1.answer")?;
+    let b = run(rt, page, a, b"past2 ", "past2.run", "past2.answer")?;
+    let c = run(rt, page, b, b"past3 ", "past3.run", "past3.answer")?;
+    run(rt, page, c, b"past4 ", "past4.run", "past4.answer")
 }
 
-fn long(page: &mut [u8; 65536], at: usize) -> usize {
-    let a = run(page, at, b"full1 ", b"full1.run", b"full1.answer");
-    let b = run(page, a, b"full2 ", b"full2.run", b"full2.answer");
-    let c = run(page, b, b"guided", b"guided.run", b"guided.answer");
-    let d = run(page, c, b"full3 ", b"full3.run", b"full3.answer");
-    let e = run(page, d, b"mixed ", b"mixed.run", b"mixed.answer");
-    run(page, e, b"full4 ", b"full4.run", b"full4.answer")
+fn long(rt: HostRuntime, page: &mut [u8; 65536], at: usize) -> io::Result<usize> {
+    let a = run(rt, page, at, b"full1 ", "full1.run", "full1.answer")?;
+    let b = run(rt, page, a, b"full2 ", "full2.run", "full2.answer")?;
+    let c = run(rt, page, b, b"guided", "guided.run", "guided.answer")?;
+    let d = run(rt, page, c, b"full3 ", "full3.run", "full3.answer")?;
+    let e = run(rt, page, d, b"mixed ", "mixed.run", "mixed.answer")?;
+    run(rt, page, e, b"full4 ", "full4.run", "full4.answer")
 }
 
-fn main() {
-    let mut page = io::large_buffer();
-    let a = limits(&mut page, 0);
-    let b = past(&mut page, a);
-    let c = long(&mut page, b);
-    let d = calls::reads(&mut page, c);
-    let e = calls::broadcasts(&mut page, d);
-    console::finish(&page, e, b"runs");
+fn all(rt: HostRuntime, page: &mut [u8; 65536]) -> io::Result<usize> {
+    let a = limits(rt, page, 0)?;
+    let b = past(rt, page, a)?;
+    let c = long(rt, page, b)?;
+    let d = calls::reads(rt.stdout(), page, c);
+    Ok(calls::broadcasts(rt.stdout(), page, d))
+}
+
+// Where a file cannot be read, nothing is printed.
+fn main(rt: HostRuntime) -> ExitCode {
+    let mut page = [0u8; 65536];
+    match all(rt, &mut page) {
+        Ok(at) => console::finish(rt.stdout(), rt.stderr(), &page, at, b"runs"),
+        Err(_) => console::unread(rt.stderr(), b"runs"),
+    }
 }

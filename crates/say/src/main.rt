@@ -5,6 +5,8 @@
 use console::{put, tell};
 use names::placement::byte;
 use names::wide;
+use std::io::Stdout;
+use std::process::ExitCode;
 
 fn steps(file: &[u8]) -> u32 {
     byte(file, 0) + 256 * byte(file, 1)
@@ -53,71 +55,68 @@ fn all_spoken(file: &[u8], n: u32) -> bool {
 }
 
 // A line for a refused step.
-fn line(page: &mut [u8; 65536], at: usize, k: u32, res: u8) -> usize {
+fn line(stdout: Stdout, page: &mut [u8; 65536], at: usize, k: u32, res: u8) -> usize {
     if names::is_taken(res) {
         return at;
     }
     let mut text = [0u8; 64];
     let said = words::sentence(k, res, &mut text);
-    let a = console::first(page, at, &text, wide(said.length));
-    put(page, a, b'\n')
+    let a = console::first(stdout, page, at, &text, wide(said.length));
+    put(stdout, page, a, b'\n')
 }
 
-fn lines(page: &mut [u8; 65536], file: &[u8], n: u32) -> usize {
+fn lines(stdout: Stdout, page: &mut [u8; 65536], file: &[u8], n: u32) -> usize {
     let mut next: usize = 0;
     let mut k: u32 = 0;
     while k < n {
-        next = line(page, next, k, result(file, k));
+        next = line(stdout, page, next, k, result(file, k));
         k += 1;
     }
     next
 }
 
-fn say(file: &[u8], n: u32) {
-    let mut page = io::large_buffer();
-    let a = lines(&mut page, file, n);
+fn say(rt: HostRuntime, file: &[u8], n: u32) -> ExitCode {
+    let mut page = [0u8; 65536];
+    let a = lines(rt.stdout(), &mut page, file, n);
     let many = refused(file, n);
     let numbers = [std::num::wrapping_sub_u32(n, many), many];
-    let b = tell(&mut page, a, b"taken #, refused #\n", &numbers);
-    console::finish(&page, b, b"say");
+    let b = tell(rt.stdout(), &mut page, a, b"taken #, refused #\n", &numbers);
+    console::finish(rt.stdout(), rt.stderr(), &page, b, b"say")
 }
 
 // An answer file of n steps by its length; or why it is none.
-fn judged(file: &[u8], n: u32) {
+fn judged(rt: HostRuntime, file: &[u8], n: u32) -> ExitCode {
     if file.len() < 2 + 5 * wide(n) {
-        console::failed(b"say", b": the answer file is cut short");
-        return;
+        return console::failed(rt.stderr(), b"say", b": the answer file is cut short");
     }
     if 2 + 5 * wide(n) < file.len() {
-        console::failed(b"say", b": the answer file is too long");
-        return;
+        return console::failed(rt.stderr(), b"say", b": the answer file is too long");
     }
     if !all_spoken(file, n) {
-        console::failed(b"say", b": a result has no phrase");
-        return;
+        return console::failed(rt.stderr(), b"say", b": a result has no phrase");
     }
-    say(file, n);
+    say(rt, file, n)
 }
 
-fn judge(file: &[u8]) {
+fn judge(rt: HostRuntime, file: &[u8]) -> ExitCode {
     if file.len() < 2 {
-        console::failed(b"say", b": the answer file is cut short");
-        return;
+        return console::failed(rt.stderr(), b"say", b": the answer file is cut short");
     }
     if 4096 < steps(file) {
-        console::failed(b"say", b": the answer file has more than 4096 steps");
-        return;
+        return console::failed(
+            rt.stderr(),
+            b"say",
+            b": the answer file has more than 4096 steps",
+        );
     }
-    judged(file, steps(file));
+    judged(rt, file, steps(file))
 }
 
 // No answer file fills the buffer: a longer input is judged by what is read of it.
-fn main() {
-    let mut input = io::large_buffer();
-    let n = io::read_full(0, &mut input);
-    if !console::read_whole(n, &input) {
-        console::unread(b"say");
-        return;
+fn main(rt: HostRuntime) -> ExitCode {
+    let mut input = [0u8; 65536];
+    match console::read_whole(&mut rt.stdin(), &mut input) {
+        Ok(n) => judge(rt, &input[..n]),
+        Err(_) => console::unread(rt.stderr(), b"say"),
     }
-    judge(&input[..n]);
 }

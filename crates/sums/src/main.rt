@@ -4,37 +4,40 @@
 
 use console::{pad, put, right, say, tell, tell_one};
 use names::{Register, wide};
+use std::io::Stdout;
+use std::process::ExitCode;
 use totals::{card_sums, total_by_card};
 
-fn refused_file(page: &mut [u8; 65536], at: usize, number: u32) -> usize {
-    let next = console::refused_file(page, at, number);
-    put(page, next, b'\n')
+fn refused_file(stdout: Stdout, page: &mut [u8; 65536], at: usize, number: u32) -> usize {
+    let next = console::refused_file(stdout, page, at, number);
+    put(stdout, page, next, b'\n')
 }
 
 // The sizes, and the head of each column.
-fn heads(page: &mut [u8; 65536], at: usize, sizes: runfile::Sizes) -> usize {
+fn heads(stdout: Stdout, page: &mut [u8; 65536], at: usize, sizes: runfile::Sizes) -> usize {
     let a = tell(
+        stdout,
         page,
         at,
         b"cards #, registers #, tasks #, steps #\n\n",
         &[sizes.cards, sizes.registers, sizes.tasks, sizes.steps],
     );
-    let mut next = pad(page, a, 0, 11);
+    let mut next = pad(stdout, page, a, 0, 11);
     let mut i: u32 = 0;
     while i < sizes.cards {
-        next = tell_one(page, next, b"      card #", i);
+        next = tell_one(stdout, page, next, b"      card #", i);
         i += 1;
     }
-    say(page, next, b"       total\n")
+    say(stdout, page, next, b"       total\n")
 }
 
 // The sum of each present card's group, in a column each.
-fn groups(page: &mut [u8; 65536], at: usize, cards: u32, sums: &[u32; 8]) -> usize {
+fn groups(stdout: Stdout, page: &mut [u8; 65536], at: usize, cards: u32, sums: &[u32; 8]) -> usize {
     let mut next = at;
     let mut i: usize = 0;
     while i < 8 {
         if i < wide(cards) {
-            next = right(page, next, sums[i], 12);
+            next = right(stdout, page, next, sums[i], 12);
         }
         i += 1;
     }
@@ -42,6 +45,7 @@ fn groups(page: &mut [u8; 65536], at: usize, cards: u32, sums: &[u32; 8]) -> usi
 }
 
 fn line(
+    stdout: Stdout,
     page: &mut [u8; 65536],
     at: usize,
     register: u32,
@@ -49,15 +53,16 @@ fn line(
     sums: &[u32; 8],
     total: u32,
 ) -> usize {
-    let a = say(page, at, b"register ");
-    let b = right(page, a, register, 2);
-    let c = groups(page, b, cards, sums);
-    let d = right(page, c, total, 12);
-    put(page, d, b'\n')
+    let a = say(stdout, page, at, b"register ");
+    let b = right(stdout, page, a, register, 2);
+    let c = groups(stdout, page, b, cards, sums);
+    let d = right(stdout, page, c, total, 12);
+    put(stdout, page, d, b'\n')
 }
 
 // The line of a register with this log.
 fn totalled(
+    stdout: Stdout,
     page: &mut [u8; 65536],
     at: usize,
     register: u32,
@@ -67,45 +72,58 @@ fn totalled(
 ) -> usize {
     let sums = card_sums(homes, operands);
     let said = total_by_card(homes, operands);
-    line(page, at, register, cards, &sums, said.total)
+    line(stdout, page, at, register, cards, &sums, said.total)
 }
 
-fn register(page: &mut [u8; 65536], at: usize, file: &[u8], register: u32, cards: u32) -> usize {
+fn register(
+    stdout: Stdout,
+    page: &mut [u8; 65536],
+    at: usize,
+    file: &[u8],
+    register: u32,
+    cards: u32,
+) -> usize {
     let mut homes = [0u8; 4096];
     let mut operands = [0u32; 4096];
     let logged = logs::log(file, Register(register), &mut homes, &mut operands);
     let n = wide(logged.length);
-    totalled(page, at, register, cards, &homes[..n], &operands[..n])
+    totalled(
+        stdout,
+        page,
+        at,
+        register,
+        cards,
+        &homes[..n],
+        &operands[..n],
+    )
 }
 
-fn show(page: &mut [u8; 65536], file: &[u8]) -> usize {
+fn show(stdout: Stdout, page: &mut [u8; 65536], file: &[u8]) -> usize {
     let number = runfile::refusal(file);
     if number != 0 {
-        return refused_file(page, 0, number as u32);
+        return refused_file(stdout, page, 0, number as u32);
     }
     let sizes = runfile::sizes_of(file);
-    let mut next = heads(page, 0, sizes);
+    let mut next = heads(stdout, page, 0, sizes);
     let mut x: u32 = 0;
     while x < sizes.registers {
-        next = register(page, next, file, x, sizes.cards);
+        next = register(stdout, page, next, file, x, sizes.cards);
         x += 1;
     }
     next
 }
 
-fn sums(file: &[u8]) {
-    let mut page = io::large_buffer();
-    let at = show(&mut page, file);
-    console::finish(&page, at, b"sums");
+fn sums(rt: HostRuntime, file: &[u8]) -> ExitCode {
+    let mut page = [0u8; 65536];
+    let at = show(rt.stdout(), &mut page, file);
+    console::finish(rt.stdout(), rt.stderr(), &page, at, b"sums")
 }
 
 // An input that fills the buffer is longer than any file that is accepted, and what is read of it gets its number: 3 or 2.
-fn main() {
-    let mut input = io::large_buffer();
-    let n = io::read_full(0, &mut input);
-    if !console::read_whole(n, &input) {
-        console::unread(b"sums");
-        return;
+fn main(rt: HostRuntime) -> ExitCode {
+    let mut input = [0u8; 65536];
+    match console::read_whole(&mut rt.stdin(), &mut input) {
+        Ok(n) => sums(rt, &input[..n]),
+        Err(_) => console::unread(rt.stderr(), b"sums"),
     }
-    sums(&input[..n]);
 }

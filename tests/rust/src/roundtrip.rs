@@ -213,10 +213,7 @@ pub fn did(
     if ended.well || !ended.output.is_empty() {
         return Err(format!("{what}: it ends well or writes, not: {message}"));
     }
-    match ended
-        .errors
-        .starts_with(format!("{program}: {message};").as_bytes())
-    {
+    match ended.errors == format!("{program}: {message}\n").as_bytes() {
         true => Ok(()),
         false => Err(format!("{what}: {}, not: {message}", said(&ended.errors))),
     }

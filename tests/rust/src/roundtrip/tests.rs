@@ -21,11 +21,7 @@ fn writes(output: Vec<u8>) -> Ended {
 fn by_model(text: &[u8]) -> Ended {
     match compose::compose(text) {
         Ok(file) => writes(file),
-        Err(why) => ended(
-            false,
-            Vec::new(),
-            format!("compose: {why}; ending by a fault\n"),
-        ),
+        Err(why) => ended(false, Vec::new(), format!("compose: {why}\n")),
     }
 }
 

@@ -15,10 +15,7 @@ fn ended(well: bool, output: Vec<u8>, errors: String) -> Ended {
 fn told(wanted: Wanted) -> Ended {
     match wanted {
         Ok(load) => ended(true, load, String::new()),
-        Err(why) => {
-            let message = format!("load: {why}; ending by a fault, so that the status tells\n");
-            ended(false, Vec::new(), message)
-        }
+        Err(why) => ended(false, Vec::new(), format!("load: {why}\n")),
     }
 }
 
@@ -106,10 +103,10 @@ const OTHERS: [Program; 13] = [
         well: true,
         ..by_model(words, file)
     }),
-    ("a message without a semicolon", |words, file| {
+    ("a message with more behind it", |words, file| {
         let made = by_model(words, file);
         let said = String::from_utf8(made.errors).expect("a message");
-        ended(made.well, made.output, said.replace(';', ","))
+        ended(made.well, made.output, said.replace('\n', "; and more\n"))
     }),
     ("something written where refused", |words, file| {
         let made = by_model(words, file);
