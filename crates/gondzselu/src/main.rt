@@ -1,7 +1,7 @@
 // Reads a run file from standard input and writes its answer file to standard output; for a refused file, its refusal as one byte.
 //
 // It reads at most 65,536 bytes. No file of more than 36,949 is accepted, and past that the first bytes alone decide the refusal, 3 or 2
-// (runfile, specs/FileRun, `long-file`), so a longer input gets its right number too.
+// (runfile, specs/FileRun, `long_file`), so a longer input gets its right number too.
 #![tactic(auto)]
 
 use std::io::Print;
