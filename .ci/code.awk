@@ -85,7 +85,7 @@ function check(k, n, many, form) {
       k++
     } else if (word[k] == "channel" && (crate in makes) && joined(k - 2, k + 7) == "letmutchannel=[0u32;channel@WORDS];") word[k] = "handed"
     else if (name_in(word[k]) && word[k + 1] == "(") calls(k)
-    else if (word[k] == "[" && word[k - 1] != "#" && word[k - 1] !~ /^[])]$/ && !name_in(word[k - 1])) {
+    else if (word[k] == "[" && word[k - 1] != "#" && !(word[k - 1] == "!" && word[k - 2] == "#") && word[k - 1] !~ /^[])]$/ && !name_in(word[k - 1])) {
       form = joined(k, closing(k))
       if (form ~ /^\[[0-9]/ || form == "[u32;#words]" || parts(k) > 1 || (crate, form) in types) continue
       say("a type that is not listed: " form)
@@ -100,14 +100,26 @@ FILENAME ~ /offered$/ && $1 == "types" { for (n = 3; n <= NF; n++) types[$2, $n]
 FILENAME ~ /offered$/ && $1 == "makes" { for (n = 2; n <= NF; n++) makes[$n] = 1 }
 FILENAME !~ /offered$/ { text[number] = text[number] " " plain($0, 1) }
 
-# a contract: an optional name, then `{ ⌜` or `{ λ r. ⌜`, which no code has
-function contract(raw, k) {
-  if (raw[k + 1] != "{") k++
-  return raw[k + 1] == "{" && (raw[k + 2] == "⌜" || (raw[k + 2] == "λ" && raw[k + 4] == "." && raw[k + 5] == "⌜"))
+# the bracket that opens the clause of a contract at k, behind a star and a name if it has them
+function clause(raw, k) {
+  if (raw[++k] == "*") k++
+  if (raw[k] ~ /^[a-z_][a-z0-9_]*$/) k++
+  return raw[k] == "{" ? k : 0
 }
 
-# the words of file n, without contracts and ghost imports; a path is one word, with @ for ::
-function read(n, all, raw, k, depth) {
+# the end of an import of single names, `use a::{b, c};`
+function listed(raw, k) {
+  if (raw[k + 1] !~ /@$/ || raw[k + 2] != "{") return 0
+  for (k += 3; raw[k] ~ /^[A-Za-z_][A-Za-z0-9_]*$/ && raw[k] != "self" && raw[k + 1] ~ /^[,}]$/; k++) {
+    if (raw[++k] == "}") break
+    if (raw[k + 1] == "}") { k++; break }
+  }
+  return raw[k] == "}" && raw[k + 1] == ";" ? k + 1 : 0
+}
+
+# the words of file n, without contracts, which stand between the head of a function and its body, and without ghost imports; a path is one
+# word, with @ for ::, and an import of several names one for each
+function read(n, all, raw, k, depth, head, end, path) {
   where = files[n]
   sub(/^.*crates\//, "", where)
   crate = where
@@ -116,13 +128,26 @@ function read(n, all, raw, k, depth) {
   gsub(/::/, "@", all)
   gsub(/[][(){},;:&*.=<>!|+%\/#-]/, " & ", all)
   all = split(all, raw, " ")
-  count = 0
+  count = head = 0
   for (k = 1; k <= all; k++) {
+    if (raw[k] == "fn") head = 1
+    else if (head && raw[k] ~ /^[([]$/) head++
+    else if (head && raw[k] ~ /^[])]$/) head--
     if (raw[k] == "ghost" && raw[k + 1] == "use") while (k < all && raw[k] != ";") k++
-    else if ((raw[k] == "requires" || raw[k] == "ensures") && contract(raw, k)) {
-      while (raw[k] != "{") k++
+    else if (head == 1 && (raw[k] == "requires" || raw[k] == "ensures") && clause(raw, k)) {
+      k = clause(raw, k)
       for (depth = 1; k < all && depth > 0; ) { k++; depth += (raw[k] == "{") - (raw[k] == "}") }
-    } else word[++count] = raw[k]
+    } else if (raw[k] == "use" && (end = listed(raw, k))) {
+      path = raw[k + 1]
+      for (depth = k + 3; depth < end; depth += 2) {
+        if (depth > k + 3 && raw[k - 1] == "pub") word[++count] = "pub"
+        if (raw[depth] ~ /^[A-Za-z_]/) { word[++count] = "use"; word[++count] = path raw[depth]; word[++count] = ";" }
+      }
+      k = end
+    } else {
+      if (head == 1 && raw[k] ~ /^[{;]$/) head = 0
+      word[++count] = raw[k]
+    }
   }
   word[count + 1] = ""
 }

@@ -45,7 +45,7 @@ function memories(k, first) {
     handed(first, k)
   }
   if (word[k] == ")" && word[before(k) + 2] in leaves) handed(before(k) + 1, k)
-  if ((word[k] in asks) && word[k - 1] != "mod" && word[k + 1] !~ /^(cs|ds)$/)
+  if ((word[k] in asks) && word[k - 1] !~ /^(mod|fn)$/ && word[k + 1] !~ /^(cs|ds)$/)
     if (word[k + 1] != "(" || !(word[k + 2] in leaves || word[k + 3] word[k + 4] == ".channel)"))
       say("the channel's memory under another name: " word[k] " " word[k + 1])
   if (file !~ /^proofs\// && (word[k] in leaves) && word[k - 1] == "=" && word[k - 2] != "channel") gives(k)

@@ -39,12 +39,12 @@ FILENAME ~ /\.rt$/ {
   asked = $0 ~ /^ *if refusal == [0-9]+ \{$/ ? $4 : ""
 }
 
-# ---- definitions: `(12, bytesOf "there is no such task")`, anywhere in a line
+# ---- definitions: `(12, bytes_of "there is no such task")`, anywhere in a line
 
 FILENAME ~ /\.antt$/ {
   line = $0
   sub(/(^|[ \t])--([ \t].*)?$/, "", line)
-  for (; match(line, /\( *[0-9]+ *, *bytesOf +"[^"]*" *\)/); line = substr(line, RSTART + RLENGTH)) {
+  for (; match(line, /\( *[0-9]+ *, *bytes_of +"[^"]*" *\)/); line = substr(line, RSTART + RLENGTH)) {
     pair = substr(line, RSTART, RLENGTH)
     number = pair
     gsub(/^[^0-9]*|,.*/, "", number)

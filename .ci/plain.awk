@@ -8,7 +8,7 @@ function unread(what) {
 
 function plain(line, code, mark, out) {
   mark = code ? "//" : "(^|[ \t])--([ \t]|$)"
-  if (line ~ /\/\*|\{-|⟦|(⌜|⌝).*\/\/|(^|[^A-Za-z0-9_])b?r#*"/) unread(FILENAME)
+  if (line ~ /\/\*|\{-|⟦|(requires|ensures)[^{]*\{.*\/\/|(^|[^A-Za-z0-9_])b?r#*"/) unread(FILENAME)
   gsub(/'\\?"'/, "' '", line)
   for (out = ""; match(line, "\"|" mark); ) {
     out = out substr(line, 1, RSTART - 1) " "

@@ -1,5 +1,5 @@
 // A million messages through the proved channel and through the same channel in plain Rust, timed in one run:
-//   rt check channel_pace && rustc -O -o target/bench_channel bench/channel.rs && target/bench_channel target/bin/channel_pace
+//   ./build channel_pace && rustc -O -o target/bench_channel bench/channel.rs && target/bench_channel target/bin/channel_pace
 use std::collections::VecDeque;
 use std::hint::black_box;
 use std::process::Command;

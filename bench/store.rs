@@ -1,5 +1,5 @@
 //! Three stores on the same guided files of 4,096 steps, in one run:
-//!   rt staticlib firmware && cargo run --release --offline --manifest-path bench/Cargo.toml
+//!   ./build firmware && cargo run --release --offline --manifest-path bench/Cargo.toml
 //!
 //! - proved: the library, called through its Rust crate, so a call across languages for every step;
 //! - plain: the model of tests/rust, ordinary Rust (Vec, VecDeque), not tuned;

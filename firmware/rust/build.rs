@@ -1,6 +1,6 @@
 //! Finds the static library: `libgondzselu.a` in the folder that `GONDZSELU_LIB_DIR` names, as
 //! an install puts it; without that variable, `target/staticlib/libfirmware.a` of the
-//! repository that this crate lies in, as `rt staticlib firmware` writes it.
+//! repository that this crate lies in, as `./build firmware` writes it.
 
 use std::env;
 use std::path::{Path, PathBuf};
@@ -37,7 +37,7 @@ fn main() {
         eprintln!(
             "no library of the register store: {} is not there.\n\
              Set {VARIABLE} to the folder of an installed libgondzselu.a,\n\
-             or leave it unset and run `rt staticlib firmware` in the repository.",
+             or leave it unset and run `./build firmware` in the repository.",
             file.display()
         );
         exit(1);

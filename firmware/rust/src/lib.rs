@@ -74,7 +74,7 @@
 //! # The library
 //!
 //! It is found when the crate is built: `libgondzselu.a` in the folder that the variable
-//! `GONDZSELU_LIB_DIR` names, or else what `rt staticlib firmware` wrote in the repository
+//! `GONDZSELU_LIB_DIR` names, or else what `./build firmware` wrote in the repository
 //! (`target/staticlib/libfirmware.a`, the same library under the name that it is built by). Its
 //! version and the sizes of its memories are checked whenever a store is started, a file
 //! answered, written or drawn, a sentence asked for, or a log added up ([`check_library`]).

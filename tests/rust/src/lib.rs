@@ -25,6 +25,7 @@ pub mod logs;
 pub mod memory;
 pub mod model;
 pub mod named;
+#[cfg(feature = "pictures")]
 pub mod pictured;
 pub mod random;
 pub mod roundtrip;

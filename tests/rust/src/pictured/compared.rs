@@ -129,7 +129,10 @@ impl Compared {
         self.seen("a step that frees one message", step.frees.len() == 1);
         self.seen("a step that frees several", step.frees.len() > 1);
         self.seen("a report of 0", step.value == Some(0));
-        self.seen("a report of more", step.value.is_some_and(|value| value > 0));
+        self.seen(
+            "a report of more",
+            step.value.is_some_and(|value| value > 0),
+        );
     }
 
     fn add_message(&mut self, message: &MessageMark) {
@@ -161,7 +164,11 @@ impl Compared {
             missing("files with", sizes, &self.sizes),
             missing("taken steps with code", numbers(&mut (1..=10)), &self.codes),
             missing("steps with result", numbers(&mut refusals()), &self.results),
-            missing("steps with result", numbers(&mut [HELD].into_iter()), &self.results),
+            missing(
+                "steps with result",
+                numbers(&mut [HELD].into_iter()),
+                &self.results,
+            ),
             missing("messages of the kind", kinds, &self.messages),
             missing("messages once in", sorts(), &self.stages),
             missing("messages left in", sorts(), &self.left),

@@ -193,29 +193,41 @@ impl Messages {
     pub fn same(&self, state: &State) {
         let channel = &state.channel;
         let here = |number: &Number| {
-            let Followed {
-                task, kind, to, ..
-            } = self.all[*number];
+            let Followed { task, kind, to, .. } = self.all[*number];
             (task, kind, to)
         };
         let there = |message: &Message| (message.task, kind(message), message.to);
         for card in 0..self.taken.len() {
-            assert!(self.outbox[card].iter().map(here).eq(channel.outbox[card].iter().map(there)));
-            assert!(self.inbox[card].iter().map(here).eq(channel.inbox[card].iter().map(there)));
+            assert!(self.outbox[card]
+                .iter()
+                .map(here)
+                .eq(channel.outbox[card].iter().map(there)));
+            assert!(self.inbox[card]
+                .iter()
+                .map(here)
+                .eq(channel.inbox[card].iter().map(there)));
             let held = channel.held[card].iter();
             let held = held.map(|held| (there(&held.message), Some(held.tag)));
             let mine = self.held[card].iter();
-            assert!(mine.map(|number| (here(number), self.all[*number].tag)).eq(held));
+            assert!(mine
+                .map(|number| (here(number), self.all[*number].tag))
+                .eq(held));
         }
         let flight = channel.flight.iter();
-        let flight = flight.map(|single| single.map(|single| (there(&single.message), Some(single.tag))));
+        let flight =
+            flight.map(|single| single.map(|single| (there(&single.message), Some(single.tag))));
         let mine = self.flight.iter();
         let mine = mine.map(|number| number.map(|number| (here(&number), self.all[number].tag)));
         assert!(mine.eq(flight));
         assert_eq!(self.taken, channel.taken);
         assert_eq!(self.broadcasts.len(), channel.made as usize);
         let recent = channel.recent.iter().rev().map(there);
-        assert!(recent.eq(self.broadcasts.iter().rev().take(channel.recent.len()).map(here)));
+        assert!(recent.eq(self
+            .broadcasts
+            .iter()
+            .rev()
+            .take(channel.recent.len())
+            .map(here)));
     }
 
     /// In the order in which they joined.

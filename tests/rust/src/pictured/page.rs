@@ -1,7 +1,7 @@
 //! A page or a figure against the marks that it must have: each in its order, with each attribute that
 //! docs/PICTURES.md names and no other of these, and with a title.
 
-use super::marks::{Attributes, MessageMark, Marks, StepMark};
+use super::marks::{Attributes, Marks, MessageMark, StepMark};
 use super::stands_alone;
 use super::xml::{self, Element};
 use crate::model::results::taken;
@@ -44,12 +44,7 @@ const NAMED: [&str; 14] = [
 type Found<'t, 'a> = [Vec<&'t Element<'a>>; 3];
 
 /// Says the first thing in which a text differs from what it must be.
-pub fn compare(
-    document: Document,
-    text: &str,
-    marks: &Marks,
-    answer: &[u8],
-) -> Result<(), String> {
+pub fn compare(document: Document, text: &str, marks: &Marks, answer: &[u8]) -> Result<(), String> {
     let root = xml::read(text)?;
     let name = match document {
         Document::Page => "html",
@@ -213,7 +208,9 @@ fn answered(steps: &[&Element], answer: &[u8]) -> Result<(), String> {
         let [a, b, c, d] = [0, 1, 2, 3].map(|byte| answer[2 + steps.len() + 4 * place + byte]);
         let value = u32::from_le_bytes([a, b, c, d]).to_string();
         if step.attribute("data-value").unwrap_or("0") != value {
-            return Err(format!("step {place}: its value is not {value}, as answered"));
+            return Err(format!(
+                "step {place}: its value is not {value}, as answered"
+            ));
         }
     }
     let of = |class: &[&str]| {

@@ -172,7 +172,12 @@ impl<'a> Reader<'a> {
         let id = self.word()?;
         let signal = self.ids.get(id).copied();
         let signal = signal.ok_or_else(|| format!("tick {tick}: no signal has the id {id}"))?;
-        let said = |why: &str| Err(format!("tick {tick}: {} is {digits}: {why}", self.name(signal)));
+        let said = |why: &str| {
+            Err(format!(
+                "tick {tick}: {} is {digits}: {why}",
+                self.name(signal)
+            ))
+        };
         if digits.is_empty() || !digits.bytes().all(|digit| b"01".contains(&digit)) {
             return said("no binary number");
         }

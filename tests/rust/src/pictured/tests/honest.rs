@@ -41,7 +41,10 @@ pub fn figure(marks: &Marks) -> String {
     text += "</g>\n";
     for value in &marks.values {
         let attributes = attributes(&value.attributes());
-        text += &format!("<text{attributes}><title>a value</title>{}</text>\n", value.value);
+        text += &format!(
+            "<text{attributes}><title>a value</title>{}</text>\n",
+            value.value
+        );
     }
     for message in &marks.messages {
         let opening = attributes(&message.attributes());
@@ -74,7 +77,8 @@ fn id(number: usize) -> String {
 
 /// The scopes of waves, nested in `run`.
 fn header(signals: &[Signal]) -> String {
-    let mut text = "$version honest $end\n$comment no date $end\n$timescale 1 us $end\n".to_string();
+    let mut text =
+        "$version honest $end\n$comment no date $end\n$timescale 1 us $end\n".to_string();
     text += "$scope module run $end\n";
     let mut open = "run";
     for (number, Signal { scope, name, bits }) in signals.iter().enumerate() {
@@ -127,7 +131,10 @@ pub fn program(arguments: &[String], file: &[u8]) -> Ended {
         Ok(wanted) => (drawn(*picture, &wanted), String::new()),
         Err(refusal) => {
             let (number, phrase) = PHRASES[refusal as usize - 1];
-            (String::new(), format!("picture: -: refused with {number}: {phrase}\n"))
+            (
+                String::new(),
+                format!("picture: -: refused with {number}: {phrase}\n"),
+            )
         }
     };
     let ended = Ended {
@@ -137,7 +144,10 @@ pub fn program(arguments: &[String], file: &[u8]) -> Ended {
         errors: errors.into_bytes(),
     };
     let refusal = Run::read(file).err();
-    assert_eq!(refusal.map(|refusal| refused(&ended, refusal)), refusal.map(|_| Ok(())));
+    assert_eq!(
+        refusal.map(|refusal| refused(&ended, refusal)),
+        refusal.map(|_| Ok(()))
+    );
     ended
 }
 

@@ -235,10 +235,11 @@ impl<'a> Reader<'a> {
             return Err(format!("the tag </{name}> does not end"));
         }
         let open = self.open.pop();
-        let (mut element, begins) =
-            open.ok_or_else(|| format!("</{name}> and nothing is open"))?;
+        let (mut element, begins) = open.ok_or_else(|| format!("</{name}> and nothing is open"))?;
         if element.name != name {
-            let Element { name: other, line, .. } = element;
+            let Element {
+                name: other, line, ..
+            } = element;
             return Err(format!("</{name}> where <{other}> of line {line} is open"));
         }
         element.raw = &self.text[begins..tag];

@@ -82,8 +82,14 @@ fn what_is_refused() {
         ("<a><!-- b </a>", "a comment does not end"),
         ("<a><![CDATA[ b </a>", "a CDATA section does not end"),
         ("<a><!DOCTYPE a></a>", "a document type that is not"),
-        ("<!DOCTYPE a><!DOCTYPE a><a/>", "a document type that is not"),
-        ("<!DOCTYPE a SYSTEM \"b\"><a/>", "a document type that is no name"),
+        (
+            "<!DOCTYPE a><!DOCTYPE a><a/>",
+            "a document type that is not",
+        ),
+        (
+            "<!DOCTYPE a SYSTEM \"b\"><a/>",
+            "a document type that is no name",
+        ),
         ("<!doctype a><a/>", "`<` that begins no tag"),
         ("<?xml version=\"1.1\"?><a/>", "an XML declaration with"),
         ("\n<?xml version=\"1.0\"?><a/>", "`<` that begins no tag"),
