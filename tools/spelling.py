@@ -16,7 +16,10 @@ WORD = re.compile(r"[^\s(){}\[\].,;\"@`:]+")
 CITED = re.compile(r"(?<![\w.'-])c(?:\.[^\s(){}\[\].,;\"@`:]+)+")
 USE = re.compile(r"^\s*use ([^\n{]*?)\.\{([^}]*)\}", re.M)
 # words with a dash that comments have for themselves, and not for a name
-PROSE = {"multi-multi", "multi-single", "single-multi", "single-single", "read-reply", "update-reply", "read-do", "update-do", "well-founded", "request-read", "request-update", "ill-sized"}
+PROSE = set(
+    "multi-multi multi-single single-multi single-single read-reply update-reply "
+    "read-do update-do well-founded request-read request-update ill-sized".split()
+)
 # lemmas that the toolchain's scripts spelled as the definitions that they are about are spelled here
 LEMMAS = {
     "crates/channel/proofs/LetterFits.antt": {"word_fits": "word_fits_lem"},

@@ -15,9 +15,8 @@ returns-then-out-text c = let l = c.if-out-text.true in record {
 
 pub returns : goal.returns
 returns c =
-    let start = c.before.before.before.before.before.before.before in
-    let text = start.args.text.now in
-    let out = start.args.out.now in
+    let text = c.args.text.now in
+    let out = c.args.out.now in
     let l = c.if-out-text.false in
     let z : 0 + length text ≡ length text = omega arith in record {
       value = sym (long_said text out l);

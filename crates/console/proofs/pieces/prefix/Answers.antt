@@ -4,4 +4,4 @@ use native.Mathlib.Omega.{arith}
 use Rattle.console.proofs.pieces.prefix.Goals as goal
 
 pub slice_bounds-result-end : goal.slice_bounds-result-end
-slice_bounds-result-end c = sym (length-take-le c.before.before.args.n c.before.before.args.bytes.now (omega arith))
+slice_bounds-result-end c = sym (length-take-le c.args.n c.args.bytes.now (omega arith))

@@ -6,37 +6,32 @@ use Rattle.runfile.proofs.file_head.whole_length.Goals as goal
 
 pub overflow_add-result : goal.overflow_add-result
 overflow_add-result c =
-    let s = c.before.before.before in
-    let a = s.args in
-    let h = (in_range_lem (placement a.cards a.homes.now a.copies.now a.primaries.now) a.steps).0 s.requires in
+    let a = c.args in
+    let h = (in_range_lem (placement a.cards a.homes.now a.copies.now a.primaries.now) a.steps).0 c.requires in
     omega (arith, h.0.0.3, h.0.0.5)
 
 pub overflow_mul-result : goal.overflow_mul-result
 overflow_mul-result c =
-    let s = c.before.before.before in
-    let a = s.args in
-    let h = (in_range_lem (placement a.cards a.homes.now a.copies.now a.primaries.now) a.steps).0 s.requires in
+    let a = c.args in
+    let h = (in_range_lem (placement a.cards a.homes.now a.copies.now a.primaries.now) a.steps).0 c.requires in
     omega (arith, h.0.0.3, h.0.0.5)
 
 pub overflow_add-result-2 : goal.overflow_add-result-2
 overflow_add-result-2 c =
-    let s = c.before.before.before in
-    let a = s.args in
-    let h = (in_range_lem (placement a.cards a.homes.now a.copies.now a.primaries.now) a.steps).0 s.requires in
+    let a = c.args in
+    let h = (in_range_lem (placement a.cards a.homes.now a.copies.now a.primaries.now) a.steps).0 c.requires in
     omega (arith, h.0.0.3, h.0.0.5)
 
 pub overflow_mul-result-2 : goal.overflow_mul-result-2
 overflow_mul-result-2 c =
-    let s = c.before.before.before.before in
-    let a = s.args in
-    let h = (in_range_lem (placement a.cards a.homes.now a.copies.now a.primaries.now) a.steps).0 s.requires in
+    let a = c.args in
+    let h = (in_range_lem (placement a.cards a.homes.now a.copies.now a.primaries.now) a.steps).0 c.requires in
     omega (arith, h.0.0.3, h.0.0.5, h.1, c.wide.ensures)
 
 pub overflow_add-result-3 : goal.overflow_add-result-3
 overflow_add-result-3 c =
-    let s = c.before.before.before.before in
-    let a = s.args in
-    let h = (in_range_lem (placement a.cards a.homes.now a.copies.now a.primaries.now) a.steps).0 s.requires in
+    let a = c.args in
+    let h = (in_range_lem (placement a.cards a.homes.now a.copies.now a.primaries.now) a.steps).0 c.requires in
     omega (arith, h.0.0.3, h.0.0.5, h.1, c.wide.ensures)
 
 pub returns : goal.returns

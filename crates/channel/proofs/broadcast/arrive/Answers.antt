@@ -1,1 +1,0 @@
--- The answers go unnamed and serve the two calls in either order, so that an edit which swaps them is refused by what it breaks.
