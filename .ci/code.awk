@@ -32,18 +32,26 @@ function parts(k, end, n, first) {
   return n
 }
 
-# notes which arguments of a crate's functions are the channel's memory: `memory` in the channel's own, `channel` above; and which functions of
-# another crate it passes on as its own
-function functions(k, n, name, head) {
+# the place of the bracket that opens the arguments of the function at k; its type parameters stand before it, where .ci/offered lists them
+function opening(k) {
+  if (word[k + 2] == "<" && (crate, word[k + 1]) in generic) while (k < count && word[k + 2] != ">") k++
+  return word[k + 2] == ">" ? k + 3 : k + 2
+}
+
+# notes which arguments of a crate's functions are the channel's memory: `memory` in the channel's own, `channel` above; of a method, whose name
+# is noted with a point, without the value that it is of; and which functions of another crate it passes on as its own
+function functions(k, n, own, name, head) {
   for (k = 1; k <= count; k++) if (word[k] == "pub" && word[k + 1] == "use") {
     name = head = word[k + 2]
     sub(/^.*@/, "", name)
     sub(/@.*/, "", head)
     passed[crate, name] = head
   } else if (word[k] == "fn") {
-    known[crate, word[k + 1]]++
-    n = word[k + 2] == "(" ? parts(k + 2) : 0
-    for (; n > 0; n--) if (index(part[n], (crate == "channel" ? "memory" : "channel") ":") == 1) takes[crate, word[k + 1], n]++
+    n = word[opening(k)] == "(" ? parts(opening(k)) : 0
+    own = n > 0 && part[1] ~ /^(&(\047[a-z]+)?)?(mut)?self$/
+    name = (own ? "." : "") word[k + 1]
+    known[crate, name]++
+    for (; n > own; n--) if (index(part[n], (crate == "channel" ? "memory" : "channel") ":") == 1) takes[crate, name, n - own]++
   }
 }
 
@@ -58,27 +66,46 @@ function crate_of(call, head) {
 
 function calls(k, home, name, n, many, is) {
   name = word[k]
-  home = crate_of(name)
-  sub(/^.*@/, "", name)
-  if (!((home, name) in known) && (home, name) in passed) home = passed[home, name]
+  if (word[k - 1] == ".") { home = crate; name = "." name }
+  else {
+    home = crate_of(name)
+    sub(/^.*@/, "", name)
+    if (!((home, name) in known) && (home, name) in passed) home = passed[home, name]
+  }
   many = parts(k + 1)
   for (n = 1; n <= many; n++) {
     is = part[n] ~ /^(&|&mut)?channel$/
-    if (is && (word[k - 1] == "." || !((home, name, n) in takes))) say("hands the channel's memory to " word[k])
+    if (is && !((home, name, n) in takes)) say("hands the channel's memory to " word[k])
     if (!is && (home, name, n) in takes && takes[home, name, n] == known[home, name])
       say("the channel's memory under another name, for " word[k] ": " part[n])
     if (is) word[starts[n] + (part[n] ~ /^&mut/ ? 2 : part[n] ~ /^&/)] = "handed"
   }
 }
 
+# a struct may have the memory by reference, in a field of that name, and is made with it
+function fields_of(k, n) {
+  if (word[k] == "struct" && word[k + 2] == "<") for (n = k; n < count && word[n + 2] != "{"; n++) ;
+  else n = k
+  if (word[n + 2] != "{") return
+  holder[where, word[k + 1]] = 0
+  for (n = parts(n + 2); n > 0; n--) if (part[n] ~ /^channel:&\047[a-z]+\[u32;channel@WORDS\]$/) {
+    holder[where, word[k + 1]] = 1
+    word[starts[n]] = "handed"
+    word[closing(starts[n] + 4) - 1] = "#words"
+  }
+}
+
 function check(k, n, many, form) {
+  for (k = 1; k <= count; k++) if (word[k] == "struct") fields_of(k)
   for (k = 1; k <= count; k++) {
+    if (holder[where, word[k]] && word[k + 1] == "{" && word[k - 1] != "struct" && word[k - 1] != "for")
+      for (n = parts(k + 1); n > 0; n--) if (part[n] == "channel") word[starts[n]] = "handed"
     if (word[k] == "use") {
       if (word[k + 2] != ";") say("a form that this check does not read: use " word[k + 1] " " word[k + 2])
       k++
     } else if (word[k] == "fn") {
-      if (word[k + 2] != "(") say("a form that this check does not read: fn " word[k + 1] " " word[k + 2])
-      for (n = parts(k + 2); n > 0; n--) if (part[n] ~ /^channel:&(mut)?\[u32;channel@WORDS\]$/) {
+      if (word[opening(k)] != "(") { say("a form that this check does not read: fn " word[k + 1] " " word[k + 2]); k++; continue }
+      for (n = parts(opening(k)); n > 0; n--) if (part[n] ~ /^channel:&(mut)?\[u32;channel@WORDS\]$/) {
         word[starts[n]] = "handed"
         word[closing(starts[n] + (part[n] ~ /&mut/ ? 4 : 3)) - 1] = "#words"
       }
@@ -87,7 +114,7 @@ function check(k, n, many, form) {
     else if (name_in(word[k]) && word[k + 1] == "(") calls(k)
     else if (word[k] == "[" && word[k - 1] != "#" && !(word[k - 1] == "!" && word[k - 2] == "#") && word[k - 1] !~ /^[])]$/ && !name_in(word[k - 1])) {
       form = joined(k, closing(k))
-      if (form ~ /^\[[0-9]/ || form == "[u32;#words]" || parts(k) > 1 || (crate, form) in types) continue
+      if (form ~ /^\[([0-9]|,+\]$)/ || form == "[u32;#words]" || parts(k) > 1 || (crate, form) in types) continue
       say("a type that is not listed: " form)
     }
   }
@@ -97,6 +124,7 @@ function check(k, n, many, form) {
 
 FNR == 1 && FILENAME !~ /offered$/ { files[++number] = FILENAME }
 FILENAME ~ /offered$/ && $1 == "types" { for (n = 3; n <= NF; n++) types[$2, $n] = 1 }
+FILENAME ~ /offered$/ && $1 == "generic" { for (n = 3; n <= NF; n++) generic[$2, $n] = 1 }
 FILENAME ~ /offered$/ && $1 == "makes" { for (n = 2; n <= NF; n++) makes[$n] = 1 }
 FILENAME !~ /offered$/ { text[number] = text[number] " " plain($0, 1) }
 
@@ -134,6 +162,9 @@ function read(n, all, raw, k, depth, head, end, path) {
     else if (head && raw[k] ~ /^[([]$/) head++
     else if (head && raw[k] ~ /^[])]$/) head--
     if (raw[k] == "ghost" && raw[k + 1] == "use") while (k < all && raw[k] != ";") k++
+    else if (raw[k] == "ghost" && raw[k + 1] ~ /^[a-z_]+$/ && raw[k + 2] ~ /^[:=]$/ && raw[k + 3] == "{") {
+      for (k += 3; k < all && raw[k] != "}"; k++) ;
+    }
     else if (head == 1 && (raw[k] == "requires" || raw[k] == "ensures") && clause(raw, k)) {
       k = clause(raw, k)
       for (depth = 1; k < all && depth > 0; ) { k++; depth += (raw[k] == "{") - (raw[k] == "}") }

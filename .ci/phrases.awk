@@ -29,14 +29,18 @@ FILENAME ~ /\.md$/ && /^\|/ {
   else if (number !~ /^(No\.|-+)$/) say(FILENAME, "a row without a number: " number)
 }
 
-# ---- code: `if refusal == 12 {`, then `return put(text, at, b"there is no such task");`
+# ---- code: `Refusal::NoTask => b"there is no such task",`; `numbers` is the file in which `NoTask = 12,` stands
 
-FILENAME ~ /\.rt$/ {
-  if ($0 ~ /^ *return put\(text, at, b"[^"]*"\);$/) {
-    if (asked == "") say(FILENAME, "a phrase without a number: " quoted($0))
-    else note(asked, quoted($0))
-  }
-  asked = $0 ~ /^ *if refusal == [0-9]+ \{$/ ? $4 : ""
+BEGIN {
+  while ((getline line < numbers) > 0)
+    if (line ~ /^ *[A-Za-z]+ = [0-9]+,$/) { split(trimmed(line), word, /[ ,]+/); number_of_name[word[1]] = word[3] }
+}
+
+FILENAME ~ /\.rt$/ && !/^ *\/\// && /b"/ {
+  name = ""
+  if ($0 ~ /^ *Refusal::[A-Za-z]+ => b"[^"]*",$/) { name = $1; sub(/^Refusal::/, "", name) }
+  if (name in number_of_name) note(number_of_name[name], quoted($0))
+  else if (quoted($0) != "") say(FILENAME, "a phrase without a number: " quoted($0))
 }
 
 # ---- definitions: `(12, bytes_of "there is no such task")`, anywhere in a line

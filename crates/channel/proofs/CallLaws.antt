@@ -13,9 +13,10 @@ use Rattle.names.specs.declared.Card.{Card}
 use Rattle.names.specs.declared.Task.{Task}
 use Rattle.names.specs.declared.Message.{Message}
 use Rattle.names.specs.declared.Letter.{Letter}
-use Rattle.channel.specs.declared.Answer.{Answer}
-use Rattle.channel.specs.declared.Answer.TheVariants.{NoCard}
-use Rattle.channel.specs.declared.Received.TheVariants.{Got, NoSuchCard, Empty}
+use Rattle.std.specs.Prelude.{Result, Ok, Err}
+use Rattle.names.specs.declared.refusals.Refusal.{Refusal}
+use Rattle.names.specs.declared.refusals.Refusal.TheVariants.{NoCard, NothingToDeliver}
+use Rattle.names.specs.declared.refusals.Taken.{Taken}
 use Rattle.automaton.specs.State.{ChannelState, ChannelAction, dispatch, take_broadcast, take_single, deliver, channel_step}
 use Rattle.automaton.specs.Refusals.{otherwise, channel_refusal}
 use Rattle.automaton.specs.Holding.{holds}
@@ -26,7 +27,8 @@ use Rattle.names.specs.Letters.{letter_at}
 use Rattle.names.specs.Results.{is_taken, result_from}
 use Rattle.names.proofs.Results.{taken_zero, result_plain, taken_is}
 use Rattle.channel.specs.Letters.{fits}
-use Rattle.channel.specs.Answers.{answer_number, received_number, is_done}
+use Rattle.names.specs.Refusals.{result_number, number_of}
+use Rattle.channel.specs.Answers.{is_done}
 use Rattle.channel.specs.Inbox.{got_of, popped, receive_answer, receive_memory}
 use Rattle.channel.specs.TakeBroadcast.{take_answer, take_memory}
 use Rattle.channel.specs.TakeSingle.{single_answer, single_memory}
@@ -113,14 +115,14 @@ fine r = go (eqb r 0) refl
 
 -- ---- a refused call leaves the memory
 
-left_alone : (ws us : List ℕ) (a : Answer) → is_taken (answer_number a) ≡ false → cond (is_done a) us ws ≡ ws
+left_alone : (ws us : List ℕ) (a : Result Taken Refusal) → is_taken (result_number a) ≡ false → cond (is_done a) us ws ≡ ws
 left_alone ws us a h = rw (done_number a, h)
 
-cast_alone : (ws : List ℕ) (l : Letter) → is_taken (answer_number (cast_answer ws l)) ≡ false → cast_memory ws l ≡ ws
+cast_alone : (ws : List ℕ) (l : Letter) → is_taken (result_number (cast_answer ws l)) ≡ false → cast_memory ws l ≡ ws
 unfolding cast_memory
 cast_alone ws l h = left_alone ws _ (cast_answer ws l) h
 
-fly_alone : (ws : List ℕ) (i : ℕ) (l : Letter) → is_taken (answer_number (fly_answer ws l)) ≡ false → fly_memory ws i l ≡ ws
+fly_alone : (ws : List ℕ) (i : ℕ) (l : Letter) → is_taken (result_number (fly_answer ws l)) ≡ false → fly_memory ws i l ≡ ws
 unfolding fly_memory
 fly_alone ws i l h = left_alone ws _ (fly_answer ws l) h
 
@@ -167,7 +169,7 @@ module _ (ws : List ℕ) (w : ChannelState Letter) (long : length ws ≡ channel
   receive_refusal_lem card = ap (λ r. cond (ltb card.0 (cards_of ws)) r 14) (fine _) ∙ present (ltb card.0 (cards_of ws)) _ 14 (omega arith)
 
   dispatch_follows : (card : Card) (m : Message) (to : ℕ) → CallFollows ws w (dispatch_call card m to)
-  unfolding call_number call_memory channel_refusal dispatch_answer dispatch_memory answer_number
+  unfolding call_number call_memory channel_refusal dispatch_answer dispatch_memory
   dispatch_follows card m to =
       let k = dispatch_keeps ws long f card m to in
       let n = dispatch_number_lem ws w z v card m to in
@@ -183,7 +185,7 @@ module _ (ws : List ℕ) (w : ChannelState Letter) (long : length ws ≡ channel
       l : Letter
       l = letter_to m to
 
-      alone : (b c : Bool) → is_taken (answer_number (cond b (cond c (cast_answer ws l) (fly_answer ws l)) NoCard)) ≡ false
+      alone : (b c : Bool) → is_taken (result_number (cond b (cond c (cast_answer ws l) (fly_answer ws l)) (Err NoCard))) ≡ false
           → cond b (cond c (cast_memory ws l) (fly_memory ws card.0 l)) ws ≡ ws
       alone true true h = cast_alone ws l h
       alone true false h = fly_alone ws card.0 l h
@@ -216,7 +218,7 @@ module _ (ws : List ℕ) (w : ChannelState Letter) (long : length ws ≡ channel
       }
 
   receive_follows : (card : Card) → CallFollows ws w (receive_call card)
-  unfolding call_number call_memory channel_refusal receive_memory receive_answer received_number got_of popped
+  unfolding call_number call_memory channel_refusal receive_memory receive_answer got_of popped
   receive_follows card =
       let k = receive_keeps ws long f card in
       record {
@@ -228,7 +230,7 @@ module _ (ws : List ℕ) (w : ChannelState Letter) (long : length ws ≡ channel
         untouched = λ h. alone (ltb card.0 (cards_of ws)) (eqb (count_of ws card.0) 0) _ _ h;
       }
     where
-      alone : (b c : Bool) (m : Message) (us : List ℕ) → is_taken (received_number (cond b (cond c Empty (Got m)) NoSuchCard)) ≡ false → cond b (cond c ws us) ws ≡ ws
+      alone : (b c : Bool) (m : Message) (us : List ℕ) → is_taken (number_of (cond b (cond c (Err NothingToDeliver) (Ok m)) (Err NoCard))) ≡ false → cond b (cond c ws us) ws ≡ ws
       alone true true m us h = refl
       alone true false m us h = absurd (clash taken_zero h)
       alone false c m us h = refl

@@ -9,10 +9,12 @@ use borrow.Author.Tests.{leb-true}
 use lib.Dec.{leb}
 use Rattle.lists.specs.Tests.{and_fst, and_snd}
 use Rattle.lists.specs.Conjunctions.{and_five}
-use Rattle.channel.specs.declared.Answer.TheVariants.{Done, BadSize}
+use Rattle.std.specs.Prelude.{Ok, Err}
+use Rattle.names.specs.declared.refusals.Refusal.TheVariants.{SizeOutOfRange}
+use Rattle.names.specs.declared.refusals.Taken.TheVariants.{Done}
 use Rattle.automaton.specs.Refusals.{otherwise}
 use Rattle.channel.specs.Layout.{cards_of, tasks_of, registers_of}
-use Rattle.channel.specs.Answers.{answer_number}
+use Rattle.names.specs.Refusals.{result_number}
 use Rattle.channel.specs.Begin.{sizes_fit, begun, begin_answer, begin_memory}
 use Rattle.channel.specs.MemoryCalls.{Call, BeginFollows, RunFollows}
 use Rattle.channel.proofs.WellSizedParts.{of_fit}
@@ -31,7 +33,7 @@ begin_sizes c t r ok =
     rw (cards_is c t r ok, tasks_is c t r ok, registers_is c t r ok) (omega arith, omega arith, omega arith)
 
 pub begin_follows : (ws : List ℕ) (cards tasks registers : ℕ) → BeginFollows ws cards tasks registers
-unfolding begin_answer begin_memory answer_number
+unfolding begin_answer begin_memory
 begin_follows ws cards tasks registers = record {
   number = pick (sizes_fit cards tasks registers);
   untouched = λ e. rw e;
@@ -39,7 +41,7 @@ begin_follows ws cards tasks registers = record {
   shows = λ e. rw e (begun_shows cards tasks registers e);
 }
   where
-    pick : (b : Bool) → answer_number (cond b Done BadSize) ≡ otherwise 3 b
+    pick : (b : Bool) → result_number (cond b (Ok Done) (Err SizeOutOfRange)) ≡ otherwise 3 b
     pick true = refl
     pick false = refl
 

@@ -13,7 +13,9 @@ use Rattle.lists.specs.Every.{each, each_cong}
 use Rattle.names.specs.declared.Card.{Card}
 use Rattle.names.specs.declared.Message.{Message}
 use Rattle.names.specs.declared.Letter.{Letter}
-use Rattle.channel.specs.declared.Answer.TheVariants.{Done, IllSized, NoCard, FarBehind}
+use Rattle.std.specs.Prelude.{Ok, Err}
+use Rattle.names.specs.declared.refusals.Refusal.TheVariants.{FarBehind, IllSized, NoCard}
+use Rattle.names.specs.declared.refusals.Taken.TheVariants.{Done}
 use Rattle.automaton.specs.State.{Tagged, ChannelState, dispatching}
 use Rattle.automaton.specs.Refusals.{otherwise, broadcast_refusal, flight_refusal, dispatch_refusal}
 use Rattle.automaton.specs.MostBehind.{keeps_up}
@@ -21,7 +23,8 @@ use Rattle.automaton.proofs.RefusalsSmall.{otherwise_small, cond_small, flight_s
 use Rattle.channel.specs.Layout.{cards_of, made_of, taken_of, flight_block}
 use Rattle.names.specs.CardSet.{several}
 use Rattle.channel.specs.Letters.{fits}
-use Rattle.channel.specs.Answers.{answer_number, is_done}
+use Rattle.names.specs.Refusals.{result_number}
+use Rattle.channel.specs.Answers.{is_done}
 use Rattle.channel.specs.TakeSingle.{no_flight}
 use Rattle.channel.specs.Dispatch.{near_at, near, cast_answer, cast_memory, fly_answer, fly_memory, letter_to, dispatch_answer, dispatch_memory}
 use Rattle.channel.specs.Shows.{letter_mail, tagged_at, flight_of, Shows}
@@ -50,11 +53,11 @@ module _ (ws : List ℕ) (w : ChannelState Letter) (z : Sized ws) (v : Shows ws 
   abbrev fly_refusal : Letter → ℕ
   fly_refusal l = or_else (flight_refusal letter_mail (cards_of ws) (w.flight l.message.task.0)) (otherwise 6 (fits ws l))
 
-  cast_number : (l : Letter) → answer_number (cast_answer ws l) ≡ cast_refusal l
-  unfolding cast_answer answer_number
+  cast_number : (l : Letter) → result_number (cast_answer ws l) ≡ cast_refusal l
+  unfolding cast_answer
   cast_number l = rw (near_is, v.made=) (go (each (cards_of ws) (λ i. keeps_up (suc (made_of ws)) (w.taken i))) (fits ws l) (ltb (made_of ws) 65535))
     where
-      go : (a b c : Bool) → answer_number (cond a (cond b (cond c Done IllSized) IllSized) FarBehind) ≡ or_else (cond a (otherwise 6 c) 34) (otherwise 6 b)
+      go : (a b c : Bool) → result_number (cond a (cond b (cond c (Ok Done) (Err IllSized)) (Err IllSized)) (Err FarBehind)) ≡ or_else (cond a (otherwise 6 c) 34) (otherwise 6 b)
       go true true true = refl
       go true true false = refl
       go true false true = refl
@@ -64,11 +67,11 @@ module _ (ws : List ℕ) (w : ChannelState Letter) (z : Sized ws) (v : Shows ws 
       go false false true = refl
       go false false false = refl
 
-  fly_number : (l : Letter) → answer_number (fly_answer ws l) ≡ fly_refusal l
-  unfolding fly_answer answer_number flight_of
+  fly_number : (l : Letter) → result_number (fly_answer ws l) ≡ fly_refusal l
+  unfolding fly_answer flight_of
   fly_number l = go (fits ws l) refl
     where
-      slot : (b : Bool) (x : Tagged Letter) → answer_number (cond b Done IllSized) ≡ or_else (flight_refusal letter_mail (cards_of ws) (cond b none (some x))) 0
+      slot : (b : Bool) (x : Tagged Letter) → result_number (cond b (Ok Done) (Err IllSized)) ≡ or_else (flight_refusal letter_mail (cards_of ws) (cond b none (some x))) 0
       slot true x = refl
       slot false x = refl
 
@@ -76,7 +79,7 @@ module _ (ws : List ℕ) (w : ChannelState Letter) (z : Sized ws) (v : Shows ws 
       bad none = refl
       bad (some x) = refl
 
-      go : (b : Bool) → fits ws l ≡ b → answer_number (cond b (cond (no_flight ws l.message.task.0) Done IllSized) IllSized)
+      go : (b : Bool) → fits ws l ≡ b → result_number (cond b (cond (no_flight ws l.message.task.0) (Ok Done) (Err IllSized)) (Err IllSized))
           ≡ or_else (flight_refusal letter_mail (cards_of ws) (w.flight l.message.task.0)) (otherwise 6 b)
       go true e =
           rw (v.flight= l.message.task.0 (fits_is ws l e).task) (slot (no_flight ws l.message.task.0) (tagged_at ws (flight_block l.message.task.0)))
@@ -90,12 +93,12 @@ module _ (ws : List ℕ) (w : ChannelState Letter) (z : Sized ws) (v : Shows ws 
     l = letter_to m to
 
     -- 14, 34, 6 as the idealised step has them; 6 too for a letter that does not fit
-    pub dispatch_number_lem : answer_number (dispatch_answer ws card m to)
+    pub dispatch_number_lem : result_number (dispatch_answer ws card m to)
         ≡ cond (ltb i (cards_of ws)) (or_else (dispatch_refusal letter_mail (cards_of ws) w l) (otherwise 6 (fits ws l))) 14
-    unfolding dispatch_answer answer_number
+    unfolding dispatch_answer
     dispatch_number_lem = go (ltb i (cards_of ws)) (several to)
       where
-        go : (b c : Bool) → answer_number (cond b (cond c (cast_answer ws l) (fly_answer ws l)) NoCard)
+        go : (b c : Bool) → result_number (cond b (cond c (cast_answer ws l) (fly_answer ws l)) (Err NoCard))
             ≡ cond b (or_else (cond c (broadcast_refusal letter_mail (cards_of ws) w) (flight_refusal letter_mail (cards_of ws) (w.flight m.task.0))) (otherwise 6 (fits ws l))) 14
         go true true = cast_number l
         go true false = fly_number l
@@ -106,14 +109,14 @@ module _ (ws : List ℕ) (w : ChannelState Letter) (z : Sized ws) (v : Shows ws 
     cast_left =
         settle ws _ w _ (cast_answer ws l) (cast_refusal l)
         (done_plain (cast_answer ws l) (cast_refusal l) (or_else_small (broadcast_refusal letter_mail (cards_of ws) w) (otherwise 6 (fits ws l)) (broadcast_small letter_mail (cards_of ws) w) (six_small (fits ws l))) (cast_number l)) v
-        (λ e. cast_shows ws w z v i l (fits_packs ws l (picked (fits ws l) _ IllSized refl (picked (near ws) _ FarBehind refl e).1).0))
+        (λ e. cast_shows ws w z v i l (fits_packs ws l (picked (fits ws l) _ (Err IllSized) refl (picked (near ws) _ (Err FarBehind) refl e).1).0))
 
     fly_left : i < cards_of ws → Shows (fly_memory ws i l) (cond (eqb (fly_refusal l) 0) (dispatching letter_mail false w i l) w)
     unfolding fly_memory fly_answer is_done
     fly_left c =
         settle ws _ w _ (fly_answer ws l) (fly_refusal l)
         (done_plain (fly_answer ws l) (fly_refusal l) (or_else_small (flight_refusal letter_mail (cards_of ws) (w.flight m.task.0)) (otherwise 6 (fits ws l)) (flight_small letter_mail (cards_of ws) w (w.flight m.task.0)) (six_small (fits ws l))) (fly_number l)) v
-        (λ e. let f = (picked (fits ws l) _ IllSized refl e).0 in fly_shows ws w z v i l c (fits_is ws l f).task (fits_packs ws l f))
+        (λ e. let f = (picked (fits ws l) _ (Err IllSized) refl e).0 in fly_shows ws w z v i l c (fits_is ws l f).task (fits_packs ws l f))
 
     pub dispatch_left : Shows (dispatch_memory ws card m to)
         (cond (eqb (cond (ltb i (cards_of ws)) (or_else (dispatch_refusal letter_mail (cards_of ws) w l) (otherwise 6 (fits ws l))) 14) 0) (dispatching letter_mail (several to) w i l) w)

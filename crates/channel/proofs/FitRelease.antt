@@ -120,9 +120,6 @@ module _ (ws : List ℕ) (i n : ℕ) (card : i < 8) (long : length ws ≡ channe
   last_sizes : SameSizes us (end ws i n card long few room).words
   last_sizes = record { cards = last_word 0 (omega arith); tasks = last_word 1 (omega arith); registers = last_word 2 (omega arith) }
 
-  pub release_sizes : SameSizes us ws
-  release_sizes = sizes_trans us _ ws last_sizes swept_fit.sizes
-
   pub release_count : held_count_of us i ≡ (end ws i n card long few room).kept
   release_count =
       let s = swept_all ws i n card long few room in

@@ -1,3 +1,5 @@
+-- Comparisons
+pub mod Orders
 -- What each operation does to the memory is what it does to the idealised state
 pub mod InboxRing
 pub mod LetterFits

@@ -12,7 +12,7 @@ use Rattle.names.specs.declared.Task.{Task}
 use Rattle.names.specs.declared.Message.{Message}
 use Rattle.names.specs.declared.Body.{Body}
 use Rattle.names.specs.declared.Body.TheVariants.{ReadDo, UpdateDo, ReadReply}
-use Rattle.channel.specs.declared.Received.TheVariants.{Got}
+use Rattle.std.specs.Prelude.{Ok}
 use Rattle.automaton.specs.Refusals.{channel_refusal}
 use Rattle.channel.specs.Layout.{cards_of, tasks_of, registers_of}
 use Rattle.names.specs.Letters.{known}
@@ -73,11 +73,11 @@ module _ (ws : List ℕ) where
   abbrev k9_taken : List Call
   k9_taken = take_broadcast_call (card 1) ∷ k9
 
-  pub k9_first : receive_answer (memory_after start k9_taken) (card 1) ≡ Got shared
+  pub k9_first : receive_answer (memory_after start k9_taken) (card 1) ≡ Ok shared
   unfolding call_refusal channel_refusal fits addressed known known_function cards_of tasks_of registers_of begin_memory sizes_fit begun several single sole_of size_of member_of total turns each
   k9_first = (follows k9_taken).hands (card 1)
 
-  pub k9_second : receive_answer (memory_after start (receive_call (card 1) ∷ k9_taken)) (card 1) ≡ Got only_there
+  pub k9_second : receive_answer (memory_after start (receive_call (card 1) ∷ k9_taken)) (card 1) ≡ Ok only_there
   unfolding call_refusal channel_refusal fits addressed known known_function cards_of tasks_of registers_of begin_memory sizes_fit begun several single sole_of size_of member_of total turns each
   k9_second = (follows (receive_call (card 1) ∷ k9_taken)).hands (card 1)
 
@@ -94,10 +94,10 @@ module _ (ws : List ℕ) where
   abbrev k10_taken : List Call
   k10_taken = take_broadcast_call (card 0) ∷ k10
 
-  pub k10_first : receive_answer (memory_after start k10_taken) (card 0) ≡ Got shared
+  pub k10_first : receive_answer (memory_after start k10_taken) (card 0) ≡ Ok shared
   unfolding call_refusal channel_refusal fits addressed known known_function cards_of tasks_of registers_of begin_memory sizes_fit begun several single sole_of size_of member_of total turns each
   k10_first = (follows k10_taken).hands (card 0)
 
-  pub k10_second : receive_answer (memory_after start (receive_call (card 0) ∷ k10_taken)) (card 0) ≡ Got answers
+  pub k10_second : receive_answer (memory_after start (receive_call (card 0) ∷ k10_taken)) (card 0) ≡ Ok answers
   unfolding call_refusal channel_refusal fits addressed known known_function cards_of tasks_of registers_of begin_memory sizes_fit begun several single sole_of size_of member_of total turns each
   k10_second = (follows (receive_call (card 0) ∷ k10_taken)).hands (card 0)

@@ -13,15 +13,13 @@ use Rattle.names.specs.declared.Task.{Task}
 use Rattle.names.specs.declared.Message.{Message}
 use Rattle.names.specs.declared.Letter.{Letter}
 use Rattle.names.specs.Results.{is_taken, result_from}
-use Rattle.channel.specs.declared.Answer.TheVariants.{Done, Held, BadSize, IllSized, NoTask, NoCard, NoBroadcast, NoneInFlight, FarBehind, Crowded}
-use Rattle.channel.specs.declared.Received.TheVariants.{Got}
 use Rattle.automaton.specs.Mail.{Mail}
 use Rattle.automaton.specs.State.{ChannelState, ChannelAction, dispatch, take_broadcast, take_single, deliver, channel_step}
 use Rattle.automaton.specs.Refusals.{dispatch_refusal, take_refusal, single_refusal, channel_refusal}
 use Rattle.automaton.specs.Holding.{held_back, holds}
 use Rattle.channel.specs.Layout.{channel_words, cards_of, tasks_of}
 use Rattle.channel.specs.Letters.{fits}
-use Rattle.channel.specs.Answers.{answer_number, received_number}
+use Rattle.names.specs.Refusals.{result_number, number_of}
 use Rattle.channel.specs.Inbox.{receive_answer, receive_memory}
 use Rattle.channel.specs.TakeBroadcast.{take_answer, take_memory}
 use Rattle.channel.specs.TakeSingle.{single_answer, single_memory}
@@ -68,19 +66,19 @@ module _ (ws : List ℕ) (w : ChannelState Letter) (long : length ws ≡ channel
       k = call_follows ws w long ok v c
 
   pub dispatch_passes : (card : Card) (m : Message) (to : ℕ) → card.0 < cards_of ws → fits ws (letter_to m to) ≡ true
-      → Passes ws w (dispatch card.0 (letter_to m to)) (answer_number (dispatch_answer ws card m to)) (dispatch_memory ws card m to)
+      → Passes ws w (dispatch card.0 (letter_to m to)) (result_number (dispatch_answer ws card m to)) (dispatch_memory ws card m to)
   unfolding call_number call_memory
   dispatch_passes card m to h f = passes (dispatch_call card m to) (rw (lt-ltb card.0 (cards_of ws) h)) (rw f)
 
-  pub take_broadcast_passes : (card : Card) → card.0 < cards_of ws → Passes ws w (take_broadcast card.0) (answer_number (take_answer ws card)) (take_memory ws card)
+  pub take_broadcast_passes : (card : Card) → card.0 < cards_of ws → Passes ws w (take_broadcast card.0) (result_number (take_answer ws card)) (take_memory ws card)
   unfolding call_number call_memory
   take_broadcast_passes card h = passes (take_broadcast_call card) (rw (lt-ltb card.0 (cards_of ws) h)) refl
 
-  pub take_single_passes : (task : Task) → task.0 < tasks_of ws → Passes ws w (take_single task.0) (answer_number (single_answer ws task)) (single_memory ws task)
+  pub take_single_passes : (task : Task) → task.0 < tasks_of ws → Passes ws w (take_single task.0) (result_number (single_answer ws task)) (single_memory ws task)
   unfolding call_number call_memory
   take_single_passes task h = passes (take_single_call task) (rw (lt-ltb task.0 (tasks_of ws) h)) refl
 
-  pub receive_passes : (card : Card) → card.0 < cards_of ws → Passes ws w (deliver card.0) (received_number (receive_answer ws card)) (receive_memory ws card)
+  pub receive_passes : (card : Card) → card.0 < cards_of ws → Passes ws w (deliver card.0) (number_of (receive_answer ws card)) (receive_memory ws card)
   unfolding call_number call_memory
   receive_passes card h = passes (receive_call card) (rw (lt-ltb card.0 (cards_of ws) h)) refl
 
@@ -104,51 +102,3 @@ module _ {M : Type 0} (mail : Mail M) (cards : ℕ) (w : ChannelState M) where
   pub take_single_result : (c : ℕ) → channel_result mail cards w (take_single c) ≡ result_from (single_refusal mail cards w (w.flight c)) (held_back mail w (w.flight c))
   unfolding channel_result channel_refusal
   take_single_result c = refl
-
--- ---- the numbers of the answers
-
-pub done_number : answer_number Done ≡ 0
-unfolding answer_number
-done_number = refl
-
-pub held_number : answer_number Held ≡ 100
-unfolding answer_number
-held_number = refl
-
-pub bad_size_number : answer_number BadSize ≡ 3
-unfolding answer_number
-bad_size_number = refl
-
-pub ill_sized_number : answer_number IllSized ≡ 6
-unfolding answer_number
-ill_sized_number = refl
-
-pub no_task_number : answer_number NoTask ≡ 12
-unfolding answer_number
-no_task_number = refl
-
-pub no_card_number : answer_number NoCard ≡ 14
-unfolding answer_number
-no_card_number = refl
-
-pub no_broadcast_number : answer_number NoBroadcast ≡ 31
-unfolding answer_number
-no_broadcast_number = refl
-
-pub none_in_flight_number : answer_number NoneInFlight ≡ 32
-unfolding answer_number
-none_in_flight_number = refl
-
-pub far_behind_number : answer_number FarBehind ≡ 34
-unfolding answer_number
-far_behind_number = refl
-
-pub crowded_number : answer_number Crowded ≡ 35
-unfolding answer_number
-crowded_number = refl
-
-pub ruleset numbers = (done_number, held_number, bad_size_number, ill_sized_number, no_task_number, no_card_number, no_broadcast_number, none_in_flight_number, far_behind_number, crowded_number)
-
-pub got_number : (m : Message) → received_number (Got m) ≡ 0
-unfolding received_number
-got_number m = refl

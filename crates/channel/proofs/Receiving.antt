@@ -10,12 +10,13 @@ use lib.ListN.{length}
 use Rattle.lists.specs.Tests.{eqb_refl, eqb_not}
 use Rattle.lists.specs.Listings.{listing}
 use Rattle.names.specs.declared.Letter.{Letter}
-use Rattle.channel.specs.declared.Received.TheVariants.{Got, NoSuchCard}
+use Rattle.std.specs.Prelude.{Ok, Err}
+use Rattle.names.specs.declared.refusals.Refusal.TheVariants.{NoCard}
 use Rattle.automaton.specs.State.{ChannelState, delivering}
 use Rattle.automaton.specs.Refusals.{receive_refusal}
 use Rattle.channel.specs.Layout.{channel_words, inbox_block, taken_word, held_word, cards_of, head_of, count_of, held_count_of}
 use Rattle.names.specs.Letters.{letter_at}
-use Rattle.channel.specs.Answers.{received_number}
+use Rattle.names.specs.Refusals.{number_of}
 use Rattle.channel.specs.Inbox.{popped, got_of, receive_answer, receive_memory}
 use Rattle.channel.specs.MemoryCalls.{handed_up}
 use Rattle.names.specs.declared.Card.{Card}
@@ -54,7 +55,7 @@ module _ (ws : List ℕ) (w : ChannelState Letter) (z : Sized ws) (v : Shows ws 
         (rw (y, v.inbox= i card, pop_drops ws i z.long c8 n e))
 
     -- what is handed up is the head's message
-    got_head : (l : Letter) × (got_of ws i ≡ Got l.message) × (w.inbox i ≡ l ∷ inbox_of (popped ws i) i)
+    got_head : (l : Letter) × (got_of ws i ≡ Ok l.message) × (w.inbox i ≡ l ∷ inbox_of (popped ws i) i)
     unfolding got_of
     got_head =
         (letter_at ws (inbox_block i (head_of ws i % 48)), rw (ne_eqb (count_of ws i) 0 (omega arith)), v.inbox= i card ∙ pop_drops ws i z.long c8 n e)
@@ -79,19 +80,18 @@ module _ (ws : List ℕ) (w : ChannelState Letter) (z : Sized ws) (v : Shows ws 
 
 module _ (ws : List ℕ) (w : ChannelState Letter) (z : Sized ws) (v : Shows ws w) (card : Card) where
   -- 14, or the head's message, or 33
-  pub receive_answer_lem : receive_answer ws card ≡ cond (ltb card.0 (cards_of ws)) (handed_up (w.inbox card.0)) NoSuchCard
+  pub receive_answer_lem : receive_answer ws card ≡ cond (ltb card.0 (cards_of ws)) (handed_up (w.inbox card.0)) (Err NoCard)
   unfolding receive_answer
   receive_answer_lem = go (ltb card.0 (cards_of ws)) refl
     where
-      go : (b : Bool) → ltb card.0 (cards_of ws) ≡ b → cond b (got_of ws card.0) NoSuchCard ≡ cond b (handed_up (w.inbox card.0)) NoSuchCard
+      go : (b : Bool) → ltb card.0 (cards_of ws) ≡ b → cond b (got_of ws card.0) (Err NoCard) ≡ cond b (handed_up (w.inbox card.0)) (Err NoCard)
       go true e = got_is ws w z v card.0 (ltb-true _ _ e)
       go false e = refl
 
-  pub receive_number : received_number (receive_answer ws card) ≡ cond (ltb card.0 (cards_of ws)) (receive_refusal letter_mail (cards_of ws) (w.inbox card.0)) 14
-  unfolding received_number
+  pub receive_number : number_of (receive_answer ws card) ≡ cond (ltb card.0 (cards_of ws)) (receive_refusal letter_mail (cards_of ws) (w.inbox card.0)) 14
   receive_number = rw receive_answer_lem (go (ltb card.0 (cards_of ws)) (w.inbox card.0))
     where
-      go : (b : Bool) (s : List Letter) → received_number (cond b (handed_up s) NoSuchCard) ≡ cond b (receive_refusal letter_mail (cards_of ws) s) 14
+      go : (b : Bool) (s : List Letter) → number_of (cond b (handed_up s) (Err NoCard)) ≡ cond b (receive_refusal letter_mail (cards_of ws) s) 14
       go true [] = refl
       go true (l ∷ s) = refl
       go false s = refl

@@ -6,7 +6,8 @@ use mathlib.Core.List.{List, [], ◌∷◌}
 use lib.Dec.{eqb, ltb}
 use lib.ListN.{length}
 use Rattle.names.specs.declared.Letter.{Letter}
-use Rattle.channel.specs.declared.Received.TheVariants.{NoSuchCard}
+use Rattle.std.specs.Prelude.{Err}
+use Rattle.names.specs.declared.refusals.Refusal.TheVariants.{NoCard}
 use Rattle.automaton.specs.State.{ChannelState, ChannelAction, dispatch, take_broadcast, take_single, deliver, channel_step}
 use Rattle.channel.specs.Sized.{well_sized}
 use Rattle.channel.specs.Shows.{letter_mail, Shows}
@@ -123,7 +124,7 @@ module _ (ms : List ℕ) (long : length ms ≡ channel_words) (ok : well_sized m
         answers = numbers cs;
         hands = λ card.
             receive_answer_lem (memory_after ms cs) (state_after ms cs) (sized_of (memory_after ms cs) u.long (fit_of (memory_after ms cs) u.sized)) u.shows card
-            ∙ ap (λ n. cond (ltb card.0 n) (handed_up ((state_after ms cs).inbox card.0)) NoSuchCard) (same_cards (memory_after ms cs) ms u.sizes);
+            ∙ ap (λ n. cond (ltb card.0 n) (handed_up ((state_after ms cs).inbox card.0)) (Err NoCard)) (same_cards (memory_after ms cs) ms u.sizes);
         taken = λ i. read u i;
         made = sym u.shows.made=;
         promise = calls_promise (letters ms) (actions_of cs);

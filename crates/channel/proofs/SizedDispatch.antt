@@ -16,7 +16,9 @@ use Rattle.names.specs.declared.Card.{Card}
 use Rattle.names.specs.declared.Message.{Message}
 use Rattle.names.specs.declared.Letter.{Letter}
 use Rattle.automaton.specs.MostBehind.{most_behind}
-use Rattle.channel.specs.declared.Answer.TheVariants.{Done, IllSized, FarBehind}
+use Rattle.std.specs.Prelude.{Ok, Err}
+use Rattle.names.specs.declared.refusals.Refusal.TheVariants.{FarBehind, IllSized}
+use Rattle.names.specs.declared.refusals.Taken.TheVariants.{Done}
 use Rattle.channel.specs.Layout.{channel_words, cards_word, tasks_word, registers_word, made_word, taken_word, flight_block, broadcast_block, cards_of, tasks_of, made_of, taken_of}
 use Rattle.names.specs.CardSet.{several}
 use Rattle.names.specs.Letters.{packet_of, letter_at, stored, marked}
@@ -184,7 +186,7 @@ module _ (ws : List ℕ) (long : length ws ≡ channel_words) (f : Fit ws) where
       us = marked ws (flight_block l.message.task.0) (packet_of l) (taken_of ws i)
 
       go : (b : Bool) → is_done (fly_answer ws l) ≡ b → Kept (cond b us ws) ws
-      go true e = flown_fit ws long f l (taken_of ws i) (taken_small i c) (picked (fits ws l) _ IllSized refl e).0 alone
+      go true e = flown_fit ws long f l (taken_of ws i) (taken_small i c) (picked (fits ws l) _ (Err IllSized) refl e).0 alone
       go false e = unchanged ws long f
 
   cast_keeps : (l : Letter) → several l.to ≡ true → Kept (cast_memory ws l) ws
@@ -196,9 +198,9 @@ module _ (ws : List ℕ) (long : length ws ≡ channel_words) (f : Fit ws) where
 
       go : (b : Bool) → is_done (cast_answer ws l) ≡ b → Kept (cond b us ws) ws
       go true e =
-          let a = picked (near ws) _ FarBehind refl e in
-          let b = picked (fits ws l) _ IllSized refl a.1 in
-          let c = picked (ltb (made_of ws) 65535) Done IllSized refl b.1 in
+          let a = picked (near ws) _ (Err FarBehind) refl e in
+          let b = picked (fits ws l) _ (Err IllSized) refl a.1 in
+          let c = picked (ltb (made_of ws) 65535) (Ok Done) (Err IllSized) refl b.1 in
           cast_fit ws long f l b.0 many a.0 (ltb-true (made_of ws) 65535 c.0)
       go false e = unchanged ws long f
 

@@ -15,12 +15,15 @@ use Rattle.lists.specs.Queues.{push}
 use Rattle.lists.specs.Places.{nth, nth_past}
 use Rattle.names.specs.declared.Card.{Card}
 use Rattle.names.specs.declared.Letter.{Letter}
-use Rattle.channel.specs.declared.Answer.TheVariants.{Done, IllSized, NoCard, NoBroadcast, Crowded}
+use Rattle.std.specs.Prelude.{Ok, Err}
+use Rattle.names.specs.declared.refusals.Refusal.TheVariants.{Crowded, IllSized, NoBroadcast, NoCard}
+use Rattle.names.specs.declared.refusals.Taken.TheVariants.{Done}
 use Rattle.automaton.specs.State.{Tagged, ChannelState, released, taking}
 use Rattle.automaton.specs.Refusals.{otherwise, take_refusal}
 use Rattle.channel.specs.Layout.{held_block, place_of, cards_of, made_of, taken_of, count_of, held_count_of}
 use Rattle.names.specs.Letters.{letter_at}
-use Rattle.channel.specs.Answers.{answer_number, is_done}
+use Rattle.names.specs.Refusals.{result_number}
+use Rattle.channel.specs.Answers.{is_done}
 use Rattle.channel.specs.TakeBroadcast.{ready_at, releasable_of, broadcast_at, broadcasts_of, next_letter, next_there, room_answer, take_answer, take_memory}
 use Rattle.channel.specs.Shows.{letter_mail, tagged_at, inbox_of, held_of, Shows}
 use Rattle.automaton.proofs.ReleasedLists.{released_count}
@@ -59,10 +62,10 @@ push_length false l s = omega arith
 
 -- whether there is room
 room_number : (ws : List ℕ) (i n : ℕ) (there : Bool) (l : Letter) → count_of ws i ≤ 48 → held_count_of ws i ≤ 16
-    → answer_number (room_answer ws i n there)
+    → result_number (room_answer ws i n there)
     ≡ cond (there && leb 32 (length (filter letter_mail.multi (inbox_of ws i)))) 35
     (otherwise 6 (leb (length (push there l (inbox_of ws i) ++ released n (held_of ws i))) 48))
-unfolding room_answer answer_number
+unfolding room_answer
 room_number ws i n there l c h =
     rw (length-append, push_length there l (inbox_of ws i), inbox_length ws i, releasable_is ws i n h, broadcasts_is ws i c) (go there)
   where
@@ -73,13 +76,13 @@ room_number ws i n there l c h =
     b = length (filter letter_mail.multi (inbox_of ws i))
 
     go : (t : Bool)
-        → answer_number (cond t (cond (leb 32 b) Crowded (cond (ltb 48 (count_of ws i + r + 1)) IllSized Done)) (cond (ltb 48 (count_of ws i + r)) IllSized Done))
+        → result_number (cond t (cond (leb 32 b) (Err Crowded) (cond (ltb 48 (count_of ws i + r + 1)) (Err IllSized) (Ok Done))) (cond (ltb 48 (count_of ws i + r)) (Err IllSized) (Ok Done)))
         ≡ cond (t && leb 32 b) 35 (otherwise 6 (leb (count_of ws i + cond t 1 0 + r) 48))
     go false = let e : count_of ws i + 0 + r ≡ count_of ws i + r = omega arith in rw e (above (count_of ws i + r) 48)
     go true = let e : count_of ws i + 1 + r ≡ count_of ws i + r + 1 = omega arith in rw e (busy (leb 32 b))
       where
         busy : (u : Bool)
-            → answer_number (cond u Crowded (cond (ltb 48 (count_of ws i + r + 1)) IllSized Done)) ≡ cond u 35 (otherwise 6 (leb (count_of ws i + r + 1) 48))
+            → result_number (cond u (Err Crowded) (cond (ltb 48 (count_of ws i + r + 1)) (Err IllSized) (Ok Done))) ≡ cond u 35 (otherwise 6 (leb (count_of ws i + r + 1) 48))
         busy true = refl
         busy false = above (count_of ws i + r + 1) 48
 
@@ -89,12 +92,12 @@ room_done : (ws : List ℕ) (i n : ℕ) (there : Bool) → held_count_of ws i �
 unfolding room_answer is_done
 room_done ws i n true h e =
     let r = releasable_is ws i n h in
-    let a = passed (leb 32 (broadcasts_of ws i)) Crowded _ refl e in
-    let b = passed (ltb 48 (count_of ws i + releasable_of ws i n + 1)) IllSized Done refl a.1 in
+    let a = passed (leb 32 (broadcasts_of ws i)) (Err Crowded) _ refl e in
+    let b = passed (ltb 48 (count_of ws i + releasable_of ws i n + 1)) (Err IllSized) (Ok Done) refl a.1 in
     omega (arith, ltb-false 48 (count_of ws i + releasable_of ws i n + 1) b.0)
 room_done ws i n false h e =
     let r = releasable_is ws i n h in
-    let b = passed (ltb 48 (count_of ws i + releasable_of ws i n)) IllSized Done refl e in
+    let b = passed (ltb 48 (count_of ws i + releasable_of ws i n)) (Err IllSized) (Ok Done) refl e in
     omega (arith, ltb-false 48 (count_of ws i + releasable_of ws i n) b.0)
 
 -- what a done call knew
@@ -107,8 +110,8 @@ pub took : (ws : List ℕ) → Sized ws → (card : Card) → is_done (take_answ
 unfolding take_answer is_done
 took ws z card e =
     let i : ℕ = card.0 in
-    let a = picked (ltb i (cards_of ws)) _ NoCard refl e in
-    let b = picked (ltb (taken_of ws i) (made_of ws)) _ NoBroadcast refl a.1 in
+    let a = picked (ltb i (cards_of ws)) _ (Err NoCard) refl e in
+    let b = picked (ltb (taken_of ws i) (made_of ws)) _ (Err NoBroadcast) refl a.1 in
     let c = ltb-true i (cards_of ws) a.0 in
     record { there = c; more = ltb-true _ _ b.0; room = room_done ws i (taken_of ws i + 1) (next_there ws i) (z.helds i c) b.1 }
 
@@ -120,12 +123,12 @@ module _ (ws : List ℕ) (w : ChannelState Letter) (z : Sized ws) (v : Shows ws 
   abbrev refusal : ℕ
   refusal = cond (ltb i (cards_of ws)) (take_refusal letter_mail (cards_of ws) w i (nth w.sent (w.taken i))) 14
 
-  pub take_number : answer_number (take_answer ws card) ≡ refusal
-  unfolding take_answer answer_number
+  pub take_number : result_number (take_answer ws card) ≡ refusal
+  unfolding take_answer
   take_number = go (ltb i (cards_of ws)) refl
     where
       here : i < cards_of ws → (t : Bool) → ltb (taken_of ws i) (made_of ws) ≡ t
-          → answer_number (cond t (room_answer ws i (taken_of ws i + 1) (next_there ws i)) NoBroadcast)
+          → result_number (cond t (room_answer ws i (taken_of ws i + 1) (next_there ws i)) (Err NoBroadcast))
           ≡ take_refusal letter_mail (cards_of ws) w i (nth w.sent (w.taken i))
       here c true e =
           rw (next_is ws w z v i c (ltb-true _ _ e), v.taken= i c, v.inbox= i c, v.held= i c, ← add-one (taken_of ws i))
@@ -133,7 +136,7 @@ module _ (ws : List ℕ) (w : ChannelState Letter) (z : Sized ws) (v : Shows ws 
       here c false e = rw (nth_past w.sent (w.taken i) (omega (arith, v.made=, v.taken= i c, ltb-false (taken_of ws i) (made_of ws) e)))
 
       go : (t : Bool) → ltb i (cards_of ws) ≡ t
-          → answer_number (cond t (cond (ltb (taken_of ws i) (made_of ws)) (room_answer ws i (taken_of ws i + 1) (next_there ws i)) NoBroadcast) NoCard)
+          → result_number (cond t (cond (ltb (taken_of ws i) (made_of ws)) (room_answer ws i (taken_of ws i + 1) (next_there ws i)) (Err NoBroadcast)) (Err NoCard))
           ≡ cond t (take_refusal letter_mail (cards_of ws) w i (nth w.sent (w.taken i))) 14
       go true e = here (ltb-true i (cards_of ws) e) (ltb (taken_of ws i) (made_of ws)) refl
       go false e = refl

@@ -9,8 +9,10 @@ use borrow.Author.Tests.{ltb-true, leb-true, leb-false, le-ltb, lt-ltb}
 use lib.Dec.{eqb, ltb, leb}
 use Rattle.names.specs.declared.Task.{Task}
 use Rattle.names.specs.declared.Letter.{Letter}
-use Rattle.channel.specs.declared.Answer.{Answer}
-use Rattle.channel.specs.declared.Answer.TheVariants.{IllSized, NoTask, NoneInFlight}
+use Rattle.std.specs.Prelude.{Result, Err}
+use Rattle.names.specs.declared.refusals.Refusal.{Refusal}
+use Rattle.names.specs.declared.refusals.Refusal.TheVariants.{IllSized, NoTask, NoneInFlight}
+use Rattle.names.specs.declared.refusals.Taken.{Taken}
 use Rattle.automaton.specs.State.{Tagged, ChannelState, arriving}
 use Rattle.automaton.specs.Refusals.{otherwise, single_refusal}
 use Rattle.automaton.specs.Holding.{held_back}
@@ -18,7 +20,8 @@ use Rattle.automaton.proofs.RefusalsSmall.{cond_small, single_small}
 use Rattle.channel.specs.Layout.{flight_block, cards_of, tasks_of, count_of, held_count_of}
 use Rattle.names.specs.CardSet.{single}
 use Rattle.names.specs.Results.{result_from}
-use Rattle.channel.specs.Answers.{answer_number, is_done, unless_full}
+use Rattle.names.specs.Refusals.{result_number}
+use Rattle.channel.specs.Answers.{is_done, unless_full}
 use Rattle.channel.specs.TakeSingle.{no_flight, flight_letter, flight_tag, flight_to, joins_at, land_answer, single_answer, single_memory}
 use Rattle.channel.specs.Shows.{letter_mail, tagged_at, flight_of, Shows}
 use Rattle.channel.proofs.SizedFacts.{Sized}
@@ -37,16 +40,16 @@ pub landed_knew : (ws : List ℕ) (task : Task) → is_done (single_answer ws ta
 unfolding single_answer land_answer is_done
 landed_knew ws task e =
     let t : ℕ = task.0 in
-    let a = picked (ltb t (tasks_of ws)) _ NoTask refl e in
-    let b = passed (no_flight ws t) NoneInFlight _ refl a.1 in
-    let c = picked (single (flight_letter ws t).to) _ IllSized refl b.1 in
+    let a = picked (ltb t (tasks_of ws)) _ (Err NoTask) refl e in
+    let b = passed (no_flight ws t) (Err NoneInFlight) _ refl a.1 in
+    let c = picked (single (flight_letter ws t).to) _ (Err IllSized) refl b.1 in
     let r = room (flight_to ws t) (joins_at ws (flight_to ws t) (flight_tag ws t)) _ _ c.1 in
     record { present = ltb-true t (tasks_of ws) a.0; flying = b.0; room_in = r.0; room_held = r.1 }
   where
-    room : (i : ℕ) (b : Bool) (joined held : Answer) → is_done (cond b (unless_full (leb 48 (count_of ws i)) joined) (unless_full (leb 16 (held_count_of ws i)) held)) ≡ true
+    room : (i : ℕ) (b : Bool) (joined held : Result Taken Refusal) → is_done (cond b (unless_full (leb 48 (count_of ws i)) joined) (unless_full (leb 16 (held_count_of ws i)) held)) ≡ true
         → (cond b (count_of ws i) 0 < 48) × (cond b 0 (held_count_of ws i) < 16)
-    room i true joined held q = (leb-false 48 (count_of ws i) (passed (leb 48 (count_of ws i)) IllSized joined refl q).0, omega arith)
-    room i false joined held q = (omega arith, leb-false 16 (held_count_of ws i) (passed (leb 16 (held_count_of ws i)) IllSized held refl q).0)
+    room i true joined held q = (leb-false 48 (count_of ws i) (passed (leb 48 (count_of ws i)) (Err IllSized) joined refl q).0, omega arith)
+    room i false joined held q = (omega arith, leb-false 16 (held_count_of ws i) (passed (leb 16 (held_count_of ws i)) (Err IllSized) held refl q).0)
 
 module _ (ws : List ℕ) (w : ChannelState Letter) (z : Sized ws) (v : Shows ws w) (task : Task) where
   abbrev t : ℕ
@@ -70,12 +73,12 @@ module _ (ws : List ℕ) (w : ChannelState Letter) (z : Sized ws) (v : Shows ws 
   unfolding joins_at
   joins_is c = rw (v.taken= i c)
 
-  land_number : i < cards_of ws → answer_number (land_answer ws i (joins_at ws i (flight_tag ws t))) ≡ result_from (single_refusal letter_mail (cards_of ws) w (some x)) (held_back letter_mail w (some x))
-  unfolding land_answer answer_number result_from
+  land_number : i < cards_of ws → result_number (land_answer ws i (joins_at ws i (flight_tag ws t))) ≡ result_from (single_refusal letter_mail (cards_of ws) w (some x)) (held_back letter_mail w (some x))
+  unfolding land_answer result_from
   land_number c = rw (joins_is c, v.inbox= i c, v.held= i c, inbox_length ws i, held_length ws i) (go (leb x.mark (w.taken i)) (leb 48 (count_of ws i)) refl (leb 16 (held_count_of ws i)) refl)
     where
       go : (b full : Bool) → leb 48 (count_of ws i) ≡ full → (crowded : Bool) → leb 16 (held_count_of ws i) ≡ crowded
-          → answer_number (land_answer ws i b) ≡ result_from (cond b (otherwise 6 (ltb (count_of ws i) 48)) (otherwise 6 (ltb (held_count_of ws i) 16))) (not b)
+          → result_number (land_answer ws i b) ≡ result_from (cond b (otherwise 6 (ltb (count_of ws i) 48)) (otherwise 6 (ltb (held_count_of ws i) 16))) (not b)
       go true true e d f = rw (e, le-ltb (count_of ws i) 48 (leb-true 48 (count_of ws i) e))
       go true false e d f = rw (e, lt-ltb (count_of ws i) 48 (leb-false 48 (count_of ws i) e))
       go false c e true f = rw (f, le-ltb (held_count_of ws i) 16 (leb-true 16 (held_count_of ws i) f))
@@ -86,19 +89,19 @@ module _ (ws : List ℕ) (w : ChannelState Letter) (z : Sized ws) (v : Shows ws 
   refusal = cond (ltb t (tasks_of ws)) (single_refusal letter_mail (cards_of ws) w (w.flight t)) 12
 
   -- and 100 where it holds the message
-  pub single_number : answer_number (single_answer ws task) ≡ result_from refusal (held_back letter_mail w (w.flight t))
-  unfolding single_answer answer_number result_from
+  pub single_number : result_number (single_answer ws task) ≡ result_from refusal (held_back letter_mail w (w.flight t))
+  unfolding single_answer result_from
   single_number = go (ltb t (tasks_of ws)) refl
     where
       here : t < tasks_of ws → (b : Bool) → no_flight ws t ≡ b
-          → answer_number (cond b NoneInFlight (cond (single (flight_letter ws t).to) (land_answer ws i (joins_at ws i (flight_tag ws t))) IllSized))
+          → result_number (cond b (Err NoneInFlight) (cond (single (flight_letter ws t).to) (land_answer ws i (joins_at ws i (flight_tag ws t))) (Err IllSized)))
           ≡ result_from (single_refusal letter_mail (cards_of ws) w (w.flight t)) (held_back letter_mail w (w.flight t))
       here h true e = rw (none_flies h e)
       here h false e = let f = z.flights t h e in rw (f.0, flies h e) (land_number f.1)
 
       go : (b : Bool) → ltb t (tasks_of ws) ≡ b
-          → answer_number (cond b (cond (no_flight ws t) NoneInFlight
-          (cond (single (flight_letter ws t).to) (land_answer ws i (joins_at ws i (flight_tag ws t))) IllSized)) NoTask)
+          → result_number (cond b (cond (no_flight ws t) (Err NoneInFlight)
+          (cond (single (flight_letter ws t).to) (land_answer ws i (joins_at ws i (flight_tag ws t))) (Err IllSized))) (Err NoTask))
           ≡ result_from (cond b (single_refusal letter_mail (cards_of ws) w (w.flight t)) 12) (held_back letter_mail w (w.flight t))
       go true e = here (ltb-true t (tasks_of ws) e) (no_flight ws t) refl
       go false e = refl

@@ -1,7 +1,9 @@
 -- A channel's memory at the start (RULES 10.3).
-use Rattle.std.specs.Prelude.{ℕ, Bool, cond, ◌&&◌, List, leb, replicate, set}
-use Rattle.channel.specs.declared.Answer.{Answer}
-use Rattle.channel.specs.declared.Answer.TheVariants.{Done, BadSize}
+use Rattle.std.specs.Prelude.{ℕ, Bool, cond, ◌&&◌, List, leb, replicate, set, Result, Ok, Err}
+use Rattle.names.specs.declared.refusals.Refusal.{Refusal}
+use Rattle.names.specs.declared.refusals.Refusal.TheVariants.{SizeOutOfRange}
+use Rattle.names.specs.declared.refusals.Taken.{Taken}
+use Rattle.names.specs.declared.refusals.Taken.TheVariants.{Done}
 use Rattle.channel.specs.Layout.{channel_words, cards_word, tasks_word, registers_word}
 
 -- the sizes of RULES 1.3
@@ -13,8 +15,8 @@ unfoldable pub begun : ℕ → ℕ → ℕ → List ℕ
 begun cards tasks registers = set (set (set (replicate channel_words 0) cards_word cards) tasks_word tasks) registers_word registers
 
 -- 3: a size is out of range
-unfoldable pub begin_answer : ℕ → ℕ → ℕ → Answer
-begin_answer cards tasks registers = cond (sizes_fit cards tasks registers) Done BadSize
+unfoldable pub begin_answer : ℕ → ℕ → ℕ → Result Taken Refusal
+begin_answer cards tasks registers = cond (sizes_fit cards tasks registers) (Ok Done) (Err SizeOutOfRange)
 
 unfoldable pub begin_memory : List ℕ → ℕ → ℕ → ℕ → List ℕ
 begin_memory ws cards tasks registers = cond (sizes_fit cards tasks registers) (begun cards tasks registers) ws

@@ -4,6 +4,8 @@
 -- (names/specs/Letters); a message held or in flight has its tag in a third.
 use Rattle.std.specs.Prelude.{ℕ, ◌+◌, ◌*◌, ◌%◌, min, cond, List, ltb, get_or}
 use Rattle.automaton.specs.MostBehind.{most_behind}
+use Rattle.channel.specs.declared.layout.Word.{Word}
+use Rattle.channel.specs.declared.layout.Word.TheVariants.{Taken, Head, Count, Held}
 
 -- ---- addresses of words
 
@@ -30,6 +32,13 @@ count_word i = 4 + i * 148 + 2
 
 abbrev pub held_word : ℕ → ℕ
 held_word i = 4 + i * 148 + 3
+
+-- the same by the word's name
+abbrev pub own_word : Word → ℕ → ℕ
+own_word Taken i = taken_word i
+own_word Head i = head_word i
+own_word Count i = count_word i
+own_word Held i = held_word i
 
 -- ---- where packets start
 

@@ -21,6 +21,12 @@ fits ws l =
 unfoldable pub limits_of : List ℕ → Limits
 limits_of ws = record { cards = cards_of ws; sets = 2 ^ cards_of ws; tasks = tasks_of ws; registers = registers_of ws }
 
+-- the fields but the kind
+unfoldable pub fields_fit : Limits → ℕ → Bool
+fields_fit z w =
+    ltb (task_in w) z.tasks && ltb (register_in w) z.registers && function_fits (kind_in w) (function_in w)
+    && (leb 1 (to_in w) && ltb (to_in w) z.sets)
+
 unfoldable pub word_fits : Limits → ℕ → Bool
 word_fits z w =
     leb 1 (kind_in w) && leb (kind_in w) 4 && (ltb (task_in w) z.tasks && ltb (register_in w) z.registers)

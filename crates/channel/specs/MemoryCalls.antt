@@ -1,12 +1,12 @@
 -- The calls that the channel offers (RULES 5.6 to 5.9), with any argument: what each does to a memory, by the definitions that the functions'
 -- contracts cite, and which operation of the idealised channel over letters it is. `CallFollows` and `RunFollows` say that the two keep step.
-use Rattle.std.specs.Prelude.{ℕ, ◌≡◌, true, false, cond, ◌&&◌, List, [], ◌∷◌, map, eqb, ltb, length, get_or}
+use Rattle.std.specs.Prelude.{ℕ, ◌≡◌, true, false, cond, ◌&&◌, List, [], ◌∷◌, map, eqb, ltb, length, get_or, Result, Ok, Err}
 use Rattle.names.specs.declared.Card.{Card}
 use Rattle.names.specs.declared.Task.{Task}
 use Rattle.names.specs.declared.Message.{Message}
 use Rattle.names.specs.declared.Letter.{Letter}
-use Rattle.channel.specs.declared.Received.{Received}
-use Rattle.channel.specs.declared.Received.TheVariants.{Got, NoSuchCard, Empty}
+use Rattle.names.specs.declared.refusals.Refusal.{Refusal}
+use Rattle.names.specs.declared.refusals.Refusal.TheVariants.{NoCard, NothingToDeliver}
 use Rattle.automaton.specs.State.{ChannelState, initial_channel, ChannelAction, dispatch, take_broadcast, take_single, deliver, channel_step}
 use Rattle.automaton.specs.Refusals.{otherwise, channel_refusal}
 use Rattle.automaton.specs.Holding.{holds}
@@ -14,7 +14,7 @@ use Rattle.channel.specs.Layout.{channel_words, cards_word, tasks_word, register
 use Rattle.names.specs.Letters.{letter_at}
 use Rattle.names.specs.Results.{is_taken, result_from}
 use Rattle.channel.specs.Letters.{fits}
-use Rattle.channel.specs.Answers.{answer_number, received_number}
+use Rattle.names.specs.Refusals.{result_number, number_of}
 use Rattle.channel.specs.Begin.{sizes_fit, begin_answer, begin_memory}
 use Rattle.channel.specs.Inbox.{receive_answer, receive_memory}
 use Rattle.channel.specs.TakeBroadcast.{take_answer, take_memory}
@@ -35,10 +35,10 @@ pub data Call : Type 0 where
 
 -- the number of the answer; 0 or 100: it is done
 unfoldable pub call_number : List ℕ → Call → ℕ
-call_number ws (dispatch_call card m to) = answer_number (dispatch_answer ws card m to)
-call_number ws (take_broadcast_call card) = answer_number (take_answer ws card)
-call_number ws (take_single_call task) = answer_number (single_answer ws task)
-call_number ws (receive_call card) = received_number (receive_answer ws card)
+call_number ws (dispatch_call card m to) = result_number (dispatch_answer ws card m to)
+call_number ws (take_broadcast_call card) = result_number (take_answer ws card)
+call_number ws (take_single_call task) = result_number (single_answer ws task)
+call_number ws (receive_call card) = number_of (receive_answer ws card)
 
 -- the memory left
 unfoldable pub call_memory : List ℕ → Call → List ℕ
@@ -69,9 +69,9 @@ abbrev pub or_else : ℕ → ℕ → ℕ
 or_else r s = cond (eqb r 0) s r
 
 -- what `receive` hands up of an inbox: its head's message
-abbrev pub handed_up : List Letter → Received
-handed_up [] = Empty
-handed_up (l ∷ r) = Got l.message
+abbrev pub handed_up : List Letter → Result Message Refusal
+handed_up [] = Err NothingToDeliver
+handed_up (l ∷ r) = Ok l.message
 
 -- The sizes are those of a memory ms; no call changes them.
 module _ (ms : List ℕ) where
@@ -135,7 +135,7 @@ pub record CallFollows (ws : List ℕ) (w : ChannelState Letter) (c : Call) : Ty
 
 -- `begin` on any memory.
 pub record BeginFollows (ws : List ℕ) (cards tasks registers : ℕ) : Type 0 where
-  pub number : answer_number (begin_answer cards tasks registers) ≡ otherwise 3 (sizes_fit cards tasks registers)
+  pub number : result_number (begin_answer cards tasks registers) ≡ otherwise 3 (sizes_fit cards tasks registers)
   pub untouched : sizes_fit cards tasks registers ≡ false → begin_memory ws cards tasks registers ≡ ws
   pub sizes : sizes_fit cards tasks registers ≡ true
       → (cards_of (begin_memory ws cards tasks registers) ≡ cards) × (tasks_of (begin_memory ws cards tasks registers) ≡ tasks)
@@ -151,7 +151,7 @@ pub record RunFollows (ms : List ℕ) (cs : List Call) : Type 0 where
   pub sizes : SameSizes (memory_after ms cs) ms
   pub shows : Shows (memory_after ms cs) (state_after ms cs)
   pub answers : answers_after ms cs ≡ results_after ms (actions_of cs)
-  pub hands : (card : Card) → receive_answer (memory_after ms cs) card ≡ cond (ltb card.0 (cards_of ms)) (handed_up ((state_after ms cs).inbox card.0)) NoSuchCard
+  pub hands : (card : Card) → receive_answer (memory_after ms cs) card ≡ cond (ltb card.0 (cards_of ms)) (handed_up ((state_after ms cs).inbox card.0)) (Err NoCard)
   pub taken : (i : ℕ) → taken_by (memory_after ms cs) i ≡ cond (ltb i (cards_of ms)) ((state_after ms cs).taken i) 0
   pub made : made_of (memory_after ms cs) ≡ length (state_after ms cs).sent
   pub promise : CallsPromise (letters ms) (actions_of cs)

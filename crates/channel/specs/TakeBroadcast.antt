@@ -1,12 +1,14 @@
 -- Step 7 (RULES 5.7, 6.2, 6.5).
-use Rattle.std.specs.Prelude.{ℕ, ◌+◌, min, Bool, cond, List, eqb, ltb, leb, set}
+use Rattle.std.specs.Prelude.{ℕ, ◌+◌, min, Bool, cond, List, eqb, ltb, leb, set, Result, Ok, Err}
 use Rattle.lists.specs.Loops.{turns, total}
 use Rattle.names.specs.CardSet.{member_of, several}
 use Rattle.names.specs.declared.Card.{Card}
 use Rattle.names.specs.declared.Letter.{Letter}
 use Rattle.names.specs.declared.Packet.{Packet}
-use Rattle.channel.specs.declared.Answer.{Answer}
-use Rattle.channel.specs.declared.Answer.TheVariants.{Done, NoCard, NoBroadcast, Crowded}
+use Rattle.names.specs.declared.refusals.Refusal.{Refusal}
+use Rattle.names.specs.declared.refusals.Refusal.TheVariants.{Crowded, NoBroadcast, NoCard}
+use Rattle.names.specs.declared.refusals.Taken.{Taken}
+use Rattle.names.specs.declared.refusals.Taken.TheVariants.{Done}
 use Rattle.channel.specs.Answers.{is_done, unless_full}
 use Rattle.channel.specs.Layout.{taken_word, held_word, cards_of, made_of, taken_of, count_of, held_count_of, place_of, held_block, broadcast_block}
 use Rattle.names.specs.Letters.{letter_of, packet_at, letter_at, tag_at, marked}
@@ -80,14 +82,14 @@ abbrev pub next_there : List ℕ → ℕ → Bool
 next_there ws i = there_at ws i (taken_of ws i + 1)
 
 -- 35: the card is a destination with 32 undelivered broadcasts (RULES 7.6); 6: a 49th message in the inbox (7.2)
-unfoldable pub room_answer : List ℕ → ℕ → ℕ → Bool → Answer
+unfoldable pub room_answer : List ℕ → ℕ → ℕ → Bool → Result Taken Refusal
 room_answer ws i n there =
     cond there
-    (cond (leb 32 (broadcasts_of ws i)) Crowded (unless_full (ltb 48 (count_of ws i + releasable_of ws i n + 1)) Done))
-    (unless_full (ltb 48 (count_of ws i + releasable_of ws i n)) Done)
+    (cond (leb 32 (broadcasts_of ws i)) (Err Crowded) (unless_full (ltb 48 (count_of ws i + releasable_of ws i n + 1)) (Ok Done)))
+    (unless_full (ltb 48 (count_of ws i + releasable_of ws i n)) (Ok Done))
 
 -- card i takes broadcast n, where there is room
-abbrev pub next_answer : List ℕ → ℕ → ℕ → Answer
+abbrev pub next_answer : List ℕ → ℕ → ℕ → Result Taken Refusal
 next_answer ws i n = room_answer ws i n (there_at ws i n)
 
 abbrev pub next_memory : List ℕ → ℕ → ℕ → List ℕ
@@ -95,13 +97,13 @@ next_memory ws i n =
     cond (is_done (next_answer ws i n)) (joined ws i n (packet_at ws (broadcast_block n)) (there_at ws i n)) ws
 
 -- 14 an absent card; 31: no broadcast to take
-unfoldable pub take_answer : List ℕ → Card → Answer
+unfoldable pub take_answer : List ℕ → Card → Result Taken Refusal
 take_answer ws card =
     cond (ltb card.0 (cards_of ws))
     (cond (ltb (taken_of ws card.0) (made_of ws))
     (next_answer ws card.0 (taken_of ws card.0 + 1))
-    NoBroadcast)
-    NoCard
+    (Err NoBroadcast))
+    (Err NoCard)
 
 -- the new words where the step is done, else the old
 unfoldable pub take_memory : List ℕ → Card → List ℕ

@@ -1,10 +1,12 @@
 -- Step 8 (RULES 5.8).
-use Rattle.std.specs.Prelude.{ℕ, ◌+◌, Bool, cond, List, eqb, ltb, leb, set}
+use Rattle.std.specs.Prelude.{ℕ, ◌+◌, Bool, cond, List, eqb, ltb, leb, set, Result, Ok, Err}
 use Rattle.names.specs.declared.Task.{Task}
 use Rattle.names.specs.declared.Letter.{Letter}
 use Rattle.names.specs.declared.Packet.{Packet}
-use Rattle.channel.specs.declared.Answer.{Answer}
-use Rattle.channel.specs.declared.Answer.TheVariants.{Done, Held, IllSized, NoTask, NoneInFlight}
+use Rattle.names.specs.declared.refusals.Refusal.{Refusal}
+use Rattle.names.specs.declared.refusals.Refusal.TheVariants.{IllSized, NoTask, NoneInFlight}
+use Rattle.names.specs.declared.refusals.Taken.{Taken}
+use Rattle.names.specs.declared.refusals.Taken.TheVariants.{Done, Held}
 use Rattle.channel.specs.Answers.{is_done, unless_full}
 use Rattle.channel.specs.Layout.{held_word, tasks_of, taken_of, count_of, held_count_of, held_block, flight_block}
 use Rattle.names.specs.CardSet.{single, sole_of}
@@ -46,13 +48,13 @@ landed ws t i p tag joins =
     cond joins (pushed us i p) (held_more us i p tag)
 
 -- whether it is held, which the answer says; 6: a 49th message in the inbox (RULES 7.2), or a 17th held (7.3)
-unfoldable pub land_answer : List ℕ → ℕ → Bool → Answer
-land_answer ws i joins = cond joins (unless_full (leb 48 (count_of ws i)) Done) (unless_full (leb 16 (held_count_of ws i)) Held)
+unfoldable pub land_answer : List ℕ → ℕ → Bool → Result Taken Refusal
+land_answer ws i joins = cond joins (unless_full (leb 48 (count_of ws i)) (Ok Done)) (unless_full (leb 16 (held_count_of ws i)) (Ok Held))
 
 -- of task t's message in flight; 6 also where it has not one destination
-abbrev pub reach_answer : List ℕ → ℕ → Answer
+abbrev pub reach_answer : List ℕ → ℕ → Result Taken Refusal
 reach_answer ws t =
-    cond (single (flight_letter ws t).to) (land_answer ws (flight_to ws t) (joins_at ws (flight_to ws t) (flight_tag ws t))) IllSized
+    cond (single (flight_letter ws t).to) (land_answer ws (flight_to ws t) (joins_at ws (flight_to ws t) (flight_tag ws t))) (Err IllSized)
 
 abbrev pub reach_memory : List ℕ → ℕ → List ℕ
 reach_memory ws t =
@@ -61,11 +63,11 @@ reach_memory ws t =
     ws
 
 -- 12 an absent task; 32: nothing of it in flight
-unfoldable pub single_answer : List ℕ → Task → Answer
+unfoldable pub single_answer : List ℕ → Task → Result Taken Refusal
 single_answer ws task =
     cond (ltb task.0 (tasks_of ws))
-    (cond (no_flight ws task.0) NoneInFlight (reach_answer ws task.0))
-    NoTask
+    (cond (no_flight ws task.0) (Err NoneInFlight) (reach_answer ws task.0))
+    (Err NoTask)
 
 -- the new words where the step is done, else the old
 unfoldable pub single_memory : List ℕ → Task → List ℕ

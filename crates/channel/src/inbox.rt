@@ -2,72 +2,59 @@
 ghost use Rattle.std.specs.Prelude.{◌≡◌, ◌<◌, ◌≤◌};
 ghost use Rattle.channel.specs.Inbox.{pushed, popped, got_of, receive_answer, receive_memory};
 
-use super::layout::{
-    WORDS, cards, count_of, inbox_block, place_of, set_count, set_head, start, wrapped,
-};
+use super::layout::{Part, WORDS, Word, own, part_of, place_of, set_own, start};
 use super::letters::{load, store};
-use crate::Received;
-use names::{Card, Packet};
+use names::refusals::Refusal;
+use names::{Card, Letter, Message, Packet};
 
 // One packet more at the end of a card's inbox; nothing changes where there is no room.
-pub(crate) fn push(memory: &mut [u32; WORDS], card: Card, packet: Packet)
-    requires { card.0 < 8 }
-    ensures { memory.new ≡ pushed memory.old card.0 packet }
+pub(crate) fn push(memory: &mut [u32; WORDS], part: Part, packet: Packet)
+    ensures { memory.new ≡ pushed memory.old part.card packet }
 {
-    let count = count_of(memory, card);
-    if 48 <= count {
-        return;
+    let count = own(memory, part, Word::Count);
+    if count < 48 {
+        store(memory, place_of(memory, part, count), packet);
+        set_own(memory, part, Word::Count, count + 1);
     }
-    store(memory, place_of(memory, card, count), packet);
-    set_count(memory, card, count + 1);
 }
 
 // The message of the first letter of a card's inbox.
-fn first(memory: &[u32; WORDS], card: Card) -> Received
-    requires { card.0 < 8 }
-    ensures { result ≡ got_of memory.now card.0 }
+fn first(memory: &[u32; WORDS], part: Part) -> Result<Message, Refusal>
+    ensures { result ≡ got_of memory.now part.card }
 {
-    if count_of(memory, card) == 0 {
-        return Received::Empty;
+    if own(memory, part, Word::Count) == 0 {
+        return Err(Refusal::NothingToDeliver);
     }
-    let packet = load(memory, inbox_block(card, start(memory, card)));
-    let letter = names::letters::letter_of(packet);
-    let message = letter.message;
-    Received::Got(message)
+    let packet = load(memory, part.inbox_block(start(memory, part)));
+    Ok(Letter::from(packet).message)
 }
 
 // The first letter of a card's inbox leaves it, where there is one.
-fn drop_first(memory: &mut [u32; WORDS], card: Card)
-    requires { card.0 < 8 }
-    ensures { memory.new ≡ popped memory.old card.0 }
+fn drop_first(memory: &mut [u32; WORDS], part: Part)
+    ensures { memory.new ≡ popped memory.old part.card }
 {
-    let count = count_of(memory, card);
-    if count == 0 {
-        return;
+    let count = own(memory, part, Word::Count);
+    if count != 0 {
+        let next = start(memory, part).past(1);
+        set_own(memory, part, Word::Head, next.k);
+        set_own(memory, part, Word::Count, count - 1);
     }
-    set_head(memory, card, wrapped(start(memory, card) + 1));
-    set_count(memory, card, count - 1);
 }
 
 // The message at the head of a card's inbox, which stays there: what `receive` would hand up.
-pub fn head(memory: &[u32; WORDS], card: Card) -> Received
+pub fn head(memory: &[u32; WORDS], card: Card) -> Result<Message, Refusal>
     ensures { result ≡ receive_answer memory.now card }
 {
-    if cards(memory) <= card.0 {
-        return Received::NoSuchCard;
-    }
-    first(memory, card)
+    first(memory, part_of(memory, card)?)
 }
 
 // The channel's part of step 9: the head of the card's inbox leaves it.
-pub fn receive(memory: &mut [u32; WORDS], card: Card) -> Received
+pub fn receive(memory: &mut [u32; WORDS], card: Card) -> Result<Message, Refusal>
     ensures memory { memory.new ≡ receive_memory memory.old card }
     ensures answer { result ≡ receive_answer memory.old card }
 {
-    if cards(memory) <= card.0 {
-        return Received::NoSuchCard;
-    }
-    let got = first(memory, card);
-    drop_first(memory, card);
+    let part = part_of(memory, card)?;
+    let got = first(memory, part);
+    drop_first(memory, part);
     got
 }

@@ -1,11 +1,14 @@
 // Where things lie in the channel's memory, its sizes, and its start.
-ghost use Rattle.std.specs.Prelude.{◌≡◌, ◌+◌, ◌<◌, ◌≤◌, ◌%◌, min, set};
-ghost use Rattle.channel.specs.Layout.{channel_words, cards_of, tasks_of, registers_of, made_of, taken_of, head_of, count_of, held_count_of, taken_word, head_word, count_word, held_word, inbox_block, place_of, held_block, flight_block, broadcast_block, taken_by};
+ghost use Rattle.std.specs.Prelude.{◌≡◌, ◌+◌, ◌<◌, ◌≤◌, ◌%◌, min, get_or, set, MatchResult};
+ghost use Rattle.channel.specs.Layout.{channel_words, cards_of, tasks_of, registers_of, made_of, taken_of, head_of, own_word, inbox_block, place_of, held_block, flight_block, broadcast_block, taken_by};
+ghost use Rattle.names.specs.declared.refusals.Refusal.TheVariants.{NoCard};
 ghost use Rattle.channel.specs.Letters.{limits_of};
 ghost use Rattle.channel.specs.Begin.{sizes_fit, begin_answer, begin_memory};
 
-use crate::{Answer, Limits};
-use names::{BroadcastNumber, Card, Task};
+use crate::Limits;
+use names::placement::sizes_in_range;
+use names::refusals::{Refusal, Taken};
+use names::{BroadcastNumber, Card};
 
 // Words of the whole memory.
 pub(crate) const CARDS: usize = 0;
@@ -20,13 +23,6 @@ pub(crate) const MADE: usize = 3;
 const FIRST: usize = 4;
 
 const PART: usize = 148;
-
-// Its words of its own.
-const HEAD: usize = 1;
-
-const COUNT: usize = 2;
-
-const HELD: usize = 3;
 
 // Packets of two words: card i's inbox from INBOX + i * PART; with a tag, three words: what is held for it from KEPT + i * PART.
 const INBOX: usize = 8;
@@ -44,34 +40,28 @@ pub(crate) const RECENT: usize = 1236;
 
 pub const WORDS: usize = RECENT + MOST_BEHIND as usize * 2;
 
-pub(crate) fn capped(x: u32, most: u32) -> u32
-    ensures { result ≡ min x most }
-{
-    if x < most {
-        return x;
-    }
-    most
-}
-
 // The number of cards.
+#[tactic(auto, unfolding(crate::specs::Layout::cards_of))]
 pub fn cards(memory: &[u32; WORDS]) -> u32
     ensures { (result ≡ cards_of memory.now) × (result ≤ 8) }
 {
-    capped(memory[CARDS], 8)
+    memory[CARDS].min(8)
 }
 
 // The number of tasks.
+#[tactic(auto, unfolding(crate::specs::Layout::tasks_of))]
 pub fn tasks(memory: &[u32; WORDS]) -> u32
     ensures { (result ≡ tasks_of memory.now) × (result ≤ 16) }
 {
-    capped(memory[TASKS], 16)
+    memory[TASKS].min(16)
 }
 
 // The number of registers.
+#[tactic(auto, unfolding(crate::specs::Layout::registers_of))]
 pub fn registers(memory: &[u32; WORDS]) -> u32
     ensures { (result ≡ registers_of memory.now) × (result ≤ 32) }
 {
-    capped(memory[REGISTERS], 32)
+    memory[REGISTERS].min(32)
 }
 
 // What the numbers in a state are below.
@@ -80,7 +70,7 @@ pub fn limits_of(memory: &[u32; WORDS]) -> Limits
 {
     let cards = cards(memory);
     Limits {
-        cards: cards,
+        cards,
         sets: 1 << cards,
         tasks: tasks(memory),
         registers: registers(memory),
@@ -94,158 +84,191 @@ pub fn made(memory: &[u32; WORDS]) -> BroadcastNumber
     BroadcastNumber(memory[MADE])
 }
 
-// A card's own words.
-pub(crate) fn taken_of(memory: &[u32; WORDS], card: Card) -> BroadcastNumber
-    requires { card.0 < 8 }
-    ensures { result.0 ≡ taken_of memory.now card.0 }
-{
-    BroadcastNumber(memory[FIRST + card.0 as usize * PART])
+// A card that has a part of the memory.
+#[derive(Clone, Copy)]
+pub(crate) struct Part {
+    pub(crate) card: u32,
+    ghost below: { card < 8 },
 }
 
-pub(crate) fn head_of(memory: &[u32; WORDS], card: Card) -> u32
-    requires { card.0 < 8 }
-    ensures { result ≡ head_of memory.now card.0 }
-{
-    memory[FIRST + card.0 as usize * PART + HEAD]
+impl Part {
+    // Where the packet at a place of a card's inbox lies.
+    pub(crate) fn inbox_block(self, place: Place) -> Block
+        ensures { result.at ≡ inbox_block self.card place.k }
+    {
+        Block {
+            at: INBOX + self.card as usize * PART + place.k as usize * 2,
+        }
+    }
+
+    // Where place k of what is held for a card lies.
+    pub(crate) fn held_block(self, k: u32) -> Tagged
+        requires { k < 16 }
+        ensures { result.block.at ≡ held_block self.card k }
+    {
+        let at = KEPT + self.card as usize * PART + k as usize * 3;
+        Tagged {
+            block: Block { at },
+        }
+    }
 }
 
-pub(crate) fn count_of(memory: &[u32; WORDS], card: Card) -> u32
-    requires { card.0 < 8 }
-    ensures { result ≡ count_of memory.now card.0 }
+// The part of a card, which the sizes must have.
+pub(crate) fn part_of(memory: &[u32; WORDS], card: Card) -> Result<Part, Refusal>
+    ensures { MatchResult result (λ part. (part.card ≡ card.0) × (card.0 < cards_of memory.now)) (λ refusal. (refusal ≡ NoCard) × (cards_of memory.now ≤ card.0)) }
 {
-    memory[FIRST + card.0 as usize * PART + COUNT]
+    if cards(memory) <= card.0 {
+        return Err(Refusal::NoCard);
+    }
+    Ok(Part { card: card.0 })
 }
 
-pub(crate) fn held_of(memory: &[u32; WORDS], card: Card) -> u32
-    requires { card.0 < 8 }
-    ensures { result ≡ held_count_of memory.now card.0 }
-{
-    memory[FIRST + card.0 as usize * PART + HELD]
+// A task that has a place for a message in flight.
+#[derive(Clone, Copy)]
+pub(crate) struct Slot {
+    pub(crate) task: u32,
+    ghost below: { task < 16 },
 }
 
-pub(crate) fn set_taken(memory: &mut [u32; WORDS], card: Card, n: BroadcastNumber)
-    requires { card.0 < 8 }
-    ensures { memory.new ≡ set memory.old (taken_word card.0) n.0 }
-{
-    memory[FIRST + card.0 as usize * PART] = n.0;
+impl Slot {
+    // Where a task's message in flight lies.
+    pub(crate) fn flight_block(self) -> Tagged
+        ensures { result.block.at ≡ flight_block self.task }
+    {
+        let at = FLIGHT + self.task as usize * 3;
+        Tagged {
+            block: Block { at },
+        }
+    }
 }
 
-pub(crate) fn set_head(memory: &mut [u32; WORDS], card: Card, x: u32)
-    requires { card.0 < 8 }
-    ensures { memory.new ≡ set memory.old (head_word card.0) x }
-{
-    memory[FIRST + card.0 as usize * PART + HEAD] = x;
+// A place of an inbox's ring.
+#[derive(Clone, Copy)]
+pub(crate) struct Place {
+    pub(crate) k: u32,
+    ghost below: { k < 48 },
 }
 
-pub(crate) fn set_count(memory: &mut [u32; WORDS], card: Card, x: u32)
-    requires { card.0 < 8 }
-    ensures { memory.new ≡ set memory.old (count_word card.0) x }
-{
-    memory[FIRST + card.0 as usize * PART + COUNT] = x;
+impl Place {
+    // The place that comes k later: after the last comes the first.
+    pub(crate) fn past(self, k: u32) -> Place
+        requires { k < 48 }
+        ensures { result.k ≡ (self.k + k) % 48 }
+    {
+        let k = self.k + k;
+        if k < 48 {
+            Place { k }
+        } else {
+            Place { k: k - 48 }
+        }
+    }
 }
 
-pub(crate) fn set_held(memory: &mut [u32; WORDS], card: Card, x: u32)
-    requires { card.0 < 8 }
-    ensures { memory.new ≡ set memory.old (held_word card.0) x }
-{
-    memory[FIRST + card.0 as usize * PART + HELD] = x;
+// Where the two words of a packet lie.
+#[derive(Clone, Copy)]
+pub(crate) struct Block {
+    pub(crate) at: usize,
+    ghost within: { at + 1 < channel_words },
 }
 
-// Where packet k of a card's inbox lies.
-pub(crate) fn inbox_block(card: Card, k: u32) -> usize
-    requires { (card.0 < 8) × (k < 48) }
-    ensures { (result ≡ inbox_block card.0 k) × (result + 1 < channel_words) }
+// The block of a packet that has a tag after it.
+#[derive(Clone, Copy)]
+pub(crate) struct Tagged {
+    pub(crate) block: Block,
+    ghost within: { block.at + 2 < channel_words },
+}
+
+// A card's own words, in the order in which they begin its part.
+#[derive(Clone, Copy)]
+pub(crate) enum Word {
+    Taken,
+    Head,
+    Count,
+    Held,
+}
+
+// One of a card's own words.
+pub(crate) fn own(memory: &[u32; WORDS], part: Part, word: Word) -> u32
+    ensures { result ≡ get_or memory.now (own_word word part.card) 0 }
 {
-    INBOX + card.0 as usize * PART + k as usize * 2
+    memory[FIRST + part.card as usize * PART + word as usize]
+}
+
+pub(crate) fn set_own(memory: &mut [u32; WORDS], part: Part, word: Word, x: u32)
+    ensures { memory.new ≡ set memory.old (own_word word part.card) x }
+{
+    memory[FIRST + part.card as usize * PART + word as usize] = x;
+}
+
+// How many broadcasts a present card has taken.
+pub(crate) fn taken_of(memory: &[u32; WORDS], part: Part) -> BroadcastNumber
+    ensures { result.0 ≡ taken_of memory.now part.card }
+{
+    BroadcastNumber(own(memory, part, Word::Taken))
 }
 
 // Where an inbox starts in its ring. In a well-sized memory no start is past the ring's end, so nothing is divided.
-pub(crate) fn start(memory: &[u32; WORDS], card: Card) -> u32
-    requires { card.0 < 8 }
-    ensures { (result ≡ head_of memory.now card.0 % 48) × (result < 48) }
+pub(crate) fn start(memory: &[u32; WORDS], part: Part) -> Place
+    ensures { result.k ≡ head_of memory.now part.card % 48 }
 {
-    let head = head_of(memory, card);
+    let head = own(memory, part, Word::Head);
     if head < 48 {
-        return head;
+        Place { k: head }
+    } else {
+        Place { k: head % 48 }
     }
-    head % 48
-}
-
-// A place of an inbox's ring, counted from its first: after the last comes the first.
-pub(crate) fn wrapped(place: u32) -> u32
-    requires { place < 96 }
-    ensures { (result ≡ place % 48) × (result < 48) }
-{
-    if place < 48 {
-        return place;
-    }
-    place - 48
 }
 
 // Where place k of a card's inbox lies, oldest first.
-pub(crate) fn place_of(memory: &[u32; WORDS], card: Card, k: u32) -> usize
-    requires { (card.0 < 8) × (k < 48) }
-    ensures { (result ≡ place_of memory.now card.0 k) × (result + 1 < channel_words) }
+pub(crate) fn place_of(memory: &[u32; WORDS], part: Part, k: u32) -> Block
+    requires { k < 48 }
+    ensures { result.at ≡ place_of memory.now part.card k }
 {
-    inbox_block(card, wrapped(start(memory, card) + k))
-}
-
-// Where place k of what is held for a card lies.
-pub(crate) fn held_block(card: Card, k: usize) -> usize
-    requires { (card.0 < 8) × (k < 16) }
-    ensures { (result ≡ held_block card.0 k) × (result + 2 < channel_words) }
-{
-    KEPT + card.0 as usize * PART + k * 3
-}
-
-// Where a task's message in flight lies.
-pub(crate) fn flight_block(task: Task) -> usize
-    requires { task.0 < 16 }
-    ensures { (result ≡ flight_block task.0) × (result + 2 < channel_words) }
-{
-    FLIGHT + task.0 as usize * 3
+    part.inbox_block(start(memory, part).past(k))
 }
 
 // Where a broadcast lies.
-pub(crate) fn broadcast_block(n: BroadcastNumber) -> usize
-    ensures { (result ≡ broadcast_block n.0) × (result + 1 < channel_words) }
+pub(crate) fn broadcast_block(n: BroadcastNumber) -> Block
+    ensures { result.at ≡ broadcast_block n.0 }
 {
-    RECENT + (n.0 % MOST_BEHIND) as usize * 2
+    Block {
+        at: RECENT + (n.0 % MOST_BEHIND) as usize * 2,
+    }
 }
 
 // The number of broadcasts that a card has taken; 0 for an absent card.
 pub fn taken(memory: &[u32; WORDS], card: Card) -> BroadcastNumber
     ensures { result.0 ≡ taken_by memory.now card.0 }
 {
-    if cards(memory) <= card.0 {
-        return BroadcastNumber(0);
+    match part_of(memory, card) {
+        Ok(part) => taken_of(memory, part),
+        Err(_) => BroadcastNumber(0),
     }
-    taken_of(memory, card)
 }
 
 // Whether the sizes are in range.
 pub(crate) fn sizes_fit(cards: u32, tasks: u32, registers: u32) -> bool
     ensures { result ≡ sizes_fit cards tasks registers }
 {
-    (1 <= cards)
-        & (cards <= 8)
-        & (1 <= tasks)
-        & (tasks <= 16)
-        & (1 <= registers)
-        & (registers <= 32)
+    sizes_in_range(cards as usize, registers as usize, tasks as usize)
 }
 
 // The memory for these sizes with every queue empty and no broadcast made.
-pub fn begin(memory: &mut [u32; WORDS], cards: u32, tasks: u32, registers: u32) -> Answer
+pub fn begin(
+    memory: &mut [u32; WORDS],
+    cards: u32,
+    tasks: u32,
+    registers: u32,
+) -> Result<Taken, Refusal>
     ensures memory { memory.new ≡ begin_memory memory.old cards tasks registers }
     ensures answer { result ≡ begin_answer cards tasks registers }
 {
     if !sizes_fit(cards, tasks, registers) {
-        return Answer::BadSize;
+        return Err(Refusal::SizeOutOfRange);
     }
     *memory = [0; WORDS];
     memory[CARDS] = cards;
     memory[TASKS] = tasks;
     memory[REGISTERS] = registers;
-    Answer::Done
+    Ok(Taken::Done)
 }

@@ -4,21 +4,21 @@ ghost use Rattle.names.specs.Letters.{letter_of};
 ghost use Rattle.channel.specs.Dispatch.{near_at, near, cast_answer, cast_memory, fly_answer, fly_memory, dispatch_answer, dispatch_memory};
 
 use super::layout::{
-    MADE, MOST_BEHIND, WORDS, broadcast_block, cards, flight_block, made, taken_of,
+    MADE, MOST_BEHIND, Part, Slot, WORDS, broadcast_block, cards, made, part_of, taken_of,
 };
 use super::letters::{fits, mark, store};
 use super::single::no_flight;
-use crate::Answer;
+use lists::loops::each;
 use names::letters::{repacked, task_in, to_in};
-use names::{BroadcastNumber, Card, Packet, wide};
+use names::refusals::{Refusal, Taken};
+use names::{BroadcastNumber, Card, Packet};
 
 // Whether one broadcast more leaves a card not too far behind.
-fn near_at(memory: &[u32; WORDS], card: Card) -> bool
-    requires { card.0 < 8 }
-    ensures { result ≡ near_at memory.now card.0 }
+fn near_at(memory: &[u32; WORDS], part: Part) -> bool
+    ensures { result ≡ near_at memory.now part.card }
 {
-    let taken = wide(taken_of(memory, card).0);
-    let last = wide(made(memory).0);
+    let taken = taken_of(memory, part).0 as usize;
+    let last = made(memory).0 as usize;
     last + 1 <= taken + MOST_BEHIND as usize
 }
 
@@ -26,66 +26,62 @@ fn near_at(memory: &[u32; WORDS], card: Card) -> bool
 fn near(memory: &[u32; WORDS]) -> bool
     ensures { result ≡ near memory.now }
 {
-    let n = cards(memory);
-    let mut i: u32 = 0;
-    while i < n {
-        if !near_at(memory, Card(i)) {
-            return false;
-        }
-        i += 1;
-    }
-    true
+    each(
+        cards(memory),
+        |i|
+            requires { i < 8 }
+        { near_at(memory, Part { card: i }) },
+    )
 }
 
 // A letter to more cards than one becomes the next broadcast.
-fn cast(memory: &mut [u32; WORDS], packet: Packet) -> Answer
+fn cast(memory: &mut [u32; WORDS], packet: Packet) -> Result<Taken, Refusal>
     ensures memory { memory.new ≡ cast_memory memory.old (letter_of packet) }
     ensures answer { result ≡ cast_answer memory.old (letter_of packet) }
 {
     if !near(memory) {
-        return Answer::FarBehind;
+        return Err(Refusal::FarBehind);
     }
     if !fits(memory, packet) {
-        return Answer::IllSized;
+        return Err(Refusal::IllSized);
     }
     let last = made(memory);
     if 65535 <= last.0 {
-        return Answer::IllSized;
+        return Err(Refusal::IllSized);
     }
     let next = BroadcastNumber(last.0 + 1);
     store(memory, broadcast_block(next), repacked(packet));
     memory[MADE] = next.0;
-    Answer::Done
+    Ok(Taken::Done)
 }
 
 // A letter to one card is in flight, tagged with the number of broadcasts that the card, which sends it, has taken.
-fn fly(memory: &mut [u32; WORDS], card: Card, packet: Packet) -> Answer
-    requires { card.0 < 8 }
-    ensures memory { memory.new ≡ fly_memory memory.old card.0 (letter_of packet) }
+fn fly(memory: &mut [u32; WORDS], part: Part, packet: Packet) -> Result<Taken, Refusal>
+    ensures memory { memory.new ≡ fly_memory memory.old part.card (letter_of packet) }
     ensures answer { result ≡ fly_answer memory.old (letter_of packet) }
 {
     if !fits(memory, packet) {
-        return Answer::IllSized;
+        return Err(Refusal::IllSized);
     }
-    let task = task_in(packet.word);
-    if !no_flight(memory, task) {
-        return Answer::IllSized;
+    let slot = Slot {
+        task: task_in(packet.word).0,
+    };
+    if !no_flight(memory, slot) {
+        return Err(Refusal::IllSized);
     }
-    let tag = taken_of(memory, card);
-    mark(memory, flight_block(task), repacked(packet), tag);
-    Answer::Done
+    let tag = taken_of(memory, part);
+    mark(memory, slot.flight_block(), repacked(packet), tag);
+    Ok(Taken::Done)
 }
 
 // Step 6, the channel's part: the message in a packet goes to its destinations. It is never taken out of the packet.
-pub fn dispatch(memory: &mut [u32; WORDS], card: Card, packet: Packet) -> Answer
+pub fn dispatch(memory: &mut [u32; WORDS], card: Card, packet: Packet) -> Result<Taken, Refusal>
     ensures memory { memory.new ≡ dispatch_memory memory.old card (letter_of packet).message (letter_of packet).to }
     ensures answer { result ≡ dispatch_answer memory.old card (letter_of packet).message (letter_of packet).to }
 {
-    if cards(memory) <= card.0 {
-        return Answer::NoCard;
-    }
+    let part = part_of(memory, card)?;
     if names::several(to_in(packet.word)) {
         return cast(memory, packet);
     }
-    fly(memory, card, packet)
+    fly(memory, part, packet)
 }

@@ -1,6 +1,7 @@
 -- The step that a code and its argument are, among a placement's cards, registers and tasks, is the one that the published algorithm reads;
 -- and what a decoded step names is in range.
 use Prim.Native.Nat.{ℕ, ◌+◌, ◌<◌, ◌≤◌}
+use Rattle.std.specs.Prelude.{Result, Ok, Err}
 use mathlib.Core.Path.{◌≡◌, refl, sym, ap, ◌∙◌, subst}
 use mathlib.Core.Logic.{◌≢◌}
 use mathlib.Core.Bool.{Bool, true, false, cond, ◌&&◌}
@@ -13,26 +14,16 @@ use lib.ListN.{get_or}
 use Rattle.lists.specs.Tests.{and_false, past}
 use Rattle.names.specs.Placement.{Placement, tasks, registers}
 use Rattle.names.specs.Update.{known_function}
-use Rattle.claims.specs.Command.{request_read, request_update, perform, send_read, send_update, dispatch, take_broadcast, take_single, deliver, report}
-use Rattle.claims.specs.Steps.{bad, good, need, zeros, names_task, names_card, names_register, names_chosen, names_function, operand, unnamed_zero, known, command_of, task_there, register_there, card_there, function_there, decode}
-use Rattle.claims.specs.Steps as S
+use Rattle.names.specs.declared.refusals.Refusal.{Refusal}
+use Rattle.names.specs.declared.refusals.Refusal.TheVariants.{NoStep, NotZero, NoTask, NoRegister, NoCard, NoFunction}
+use Rattle.names.specs.Refusals.{refusal_number}
+use Rattle.names.proofs.RefusalsMeaning.{refusals_meaning}
+use Rattle.claims.specs.Command.{request_read, send_read}
+use Rattle.claims.specs.Steps.{good, need, zeros, names_task, names_card, names_register, names_chosen, names_function, operand, unnamed_zero, known, command_of, task_there, register_there, card_there, function_there, decode}
 use Rattle.commands.specs.declared.Command.{Command}
-use Rattle.commands.specs.declared.Command.TheVariants.{RequestRead, RequestUpdate, Perform, SendRead, SendUpdate, Dispatch, TakeBroadcast, TakeSingle, Deliver, Report, Refused}
-use Rattle.commands.specs.Decode.{task_in, card_in, register_in, chosen_in, function_in, operand_in, rest_zero, decided, alone_number, task_number, card_number, pair_number, read_number, chosen_number, update_number, decode_of}
-
--- the command, as it is on paper
-abbrev pub command_shown : Command → S.Decoded
-command_shown (RequestRead t x) = good (request_read t.0 x.0)
-command_shown (RequestUpdate t x f w) = good (request_update t.0 x.0 f w)
-command_shown (Perform t) = good (perform t.0)
-command_shown (SendRead t j) = good (send_read t.0 j.0)
-command_shown (SendUpdate t) = good (send_update t.0)
-command_shown (Dispatch i) = good (dispatch i.0)
-command_shown (TakeBroadcast i) = good (take_broadcast i.0)
-command_shown (TakeSingle t) = good (take_single t.0)
-command_shown (Deliver i) = good (deliver i.0)
-command_shown (Report t) = good (report t.0)
-command_shown (Refused n) = bad n
+use Rattle.commands.specs.declared.Command.TheVariants.{RequestRead, RequestUpdate, Perform, SendRead, SendUpdate, Dispatch, TakeBroadcast, TakeSingle, Deliver, Report}
+pub use Rattle.commands.specs.Shown.{command_shown, decoded_shown, InRange, DecodedInRange}
+use Rattle.commands.specs.Decode.{task_in, card_in, register_in, chosen_in, function_in, operand_in, rest_zero, decided, alone_judged, task_judged, card_judged, pair_judged, read_judged, chosen_judged, update_judged, decode_of}
 
 -- ---- tests in another order
 
@@ -58,21 +49,24 @@ alone_is a = go (eqb (get_or a 1 0) 0)
 
 -- ---- the tests of each kind of step
 
-two : (m : ℕ) (p b c : Bool) (C : Command) → m ≢ 0 → command_shown (decided (cond p (cond b (cond c 0 m) 11) 11) C) ≡ need (p && b) 11 (need c m (command_shown C))
+two : (absent : Refusal) (p b c : Bool) (C : Command) → decoded_shown (decided (cond p (cond b (cond c (Ok tt) (Err absent)) (Err NotZero)) (Err NotZero)) C)
+    ≡ need (p && b) 11 (need c (refusal_number absent) (decoded_shown (Ok C)))
 unfolding decided
-two m true true true C h = refl
-two m true true false C h = rw (ne_eqb m 0 h)
-two m true false c C h = refl
-two m false b c C h = refl
+two absent true true true C = refl
+two absent true true false C = refl
+two absent true false c C = refl
+two absent false b c C = refl
 
-three : (m : ℕ) (b c d : Bool) (C : Command) → m ≢ 0 → command_shown (decided (cond b (cond c (cond d 0 m) 12) 11) C) ≡ need b 11 (need c 12 (need d m (command_shown C)))
+three : (absent : Refusal) (b c d : Bool) (C : Command) → decoded_shown (decided (cond b (cond c (cond d (Ok tt) (Err absent)) (Err NoTask)) (Err NotZero)) C)
+    ≡ need b 11 (need c 12 (need d (refusal_number absent) (decoded_shown (Ok C))))
 unfolding decided
-three m true true true C h = refl
-three m true true false C h = rw (ne_eqb m 0 h)
-three m true false d C h = refl
-three m false c d C h = refl
+three absent true true true C = refl
+three absent true true false C = refl
+three absent true false d C = refl
+three absent false c d C = refl
 
-four : (b c d e : Bool) (C : Command) → command_shown (decided (cond b (cond c (cond d (cond e 0 15) 13) 12) 11) C) ≡ need b 11 (need c 12 (need d 13 (need e 15 (command_shown C))))
+four : (b c d e : Bool) (C : Command) → decoded_shown (decided (cond b (cond c (cond d (cond e (Ok tt) (Err NoFunction)) (Err NoRegister)) (Err NoTask)) (Err NotZero)) C)
+    ≡ need b 11 (need c 12 (need d 13 (need e 15 (decoded_shown (Ok C)))))
 unfolding decided
 four true true true true C = refl
 four true true true false C = refl
@@ -86,25 +80,25 @@ and_true false = refl
 
 module _ (P : Placement) (a : List ℕ) where
   abbrev at : ℕ → Type 0
-  at n = command_shown (decode_of n a P.cards (registers P) (tasks P)) ≡ decode P (record { code = n; argument = a })
+  at n = decoded_shown (decode_of n a P.cards (registers P) (tasks P)) ≡ decode P (record { code = n; argument = a })
 
-  task_alone : (C : Command) → command_shown (decided (task_number a (tasks P)) C)
-      ≡ need (eqb (get_or a 1 0) 0 && zeros a (2 ∷ 4 ∷ 5 ∷ 6 ∷ 7 ∷ []) && eqb (get_or a 3 0) 0) 11 (need (ltb (get_or a 0 0) (tasks P)) 12 (command_shown C))
-  unfolding alone_number
-  task_alone C = rw (alone_is a) (two 12 (eqb (get_or a 1 0) 0) (rest_zero a) (ltb (get_or a 0 0) (tasks P)) C (omega arith))
+  task_alone : (C : Command) → decoded_shown (decided (task_judged a (tasks P)) C)
+      ≡ need (eqb (get_or a 1 0) 0 && zeros a (2 ∷ 4 ∷ 5 ∷ 6 ∷ 7 ∷ []) && eqb (get_or a 3 0) 0) 11 (need (ltb (get_or a 0 0) (tasks P)) 12 (decoded_shown (Ok C)))
+  unfolding alone_judged
+  task_alone C = rw (alone_is a) (two NoTask (eqb (get_or a 1 0) 0) (rest_zero a) (ltb (get_or a 0 0) (tasks P)) C)
 
-  card_alone : (C : Command) → command_shown (decided (card_number a P.cards) C)
-      ≡ need (eqb (get_or a 1 0) 0 && zeros a (2 ∷ 4 ∷ 5 ∷ 6 ∷ 7 ∷ []) && eqb (get_or a 3 0) 0) 11 (need (ltb (get_or a 0 0) P.cards && true) 14 (command_shown C))
-  unfolding alone_number
-  card_alone C = rw (alone_is a, and_true (ltb (get_or a 0 0) P.cards)) (two 14 (eqb (get_or a 1 0) 0) (rest_zero a) (ltb (get_or a 0 0) P.cards) C (omega arith))
+  card_alone : (C : Command) → decoded_shown (decided (card_judged a P.cards) C)
+      ≡ need (eqb (get_or a 1 0) 0 && zeros a (2 ∷ 4 ∷ 5 ∷ 6 ∷ 7 ∷ []) && eqb (get_or a 3 0) 0) 11 (need (ltb (get_or a 0 0) P.cards && true) 14 (decoded_shown (Ok C)))
+  unfolding alone_judged
+  card_alone C = rw (alone_is a, and_true (ltb (get_or a 0 0) P.cards)) (two NoCard (eqb (get_or a 1 0) 0) (rest_zero a) (ltb (get_or a 0 0) P.cards) C)
 
   at_1 : at 1
-  unfolding decode_of decode known unnamed_zero task_there register_there card_there function_there names_task names_card names_register names_chosen names_function command_of pair_number
-  at_1 = three 13 (rest_zero a) (ltb (get_or a 0 0) (tasks P)) (ltb (get_or a 1 0) (registers P)) (RequestRead (task_in a) (register_in a)) (omega arith)
+  unfolding decode_of decode known unnamed_zero task_there register_there card_there function_there names_task names_card names_register names_chosen names_function command_of pair_judged
+  at_1 = three NoRegister (rest_zero a) (ltb (get_or a 0 0) (tasks P)) (ltb (get_or a 1 0) (registers P)) (RequestRead (task_in a) (register_in a))
       ∙ ap (λ b. need b 11 (need (ltb (get_or a 0 0) (tasks P)) 12 (need (ltb (get_or a 1 0) (registers P)) 13 (good (request_read (get_or a 0 0) (get_or a 1 0)))))) (sym (rest_is a))
 
   at_2 : at 2
-  unfolding decode_of decode known unnamed_zero task_there register_there card_there function_there names_task names_card names_register names_chosen names_function command_of update_number operand_in operand
+  unfolding decode_of decode known unnamed_zero task_there register_there card_there function_there names_task names_card names_register names_chosen names_function command_of update_judged operand_in operand
   at_2 = four (eqb (get_or a 3 0) 0) (ltb (get_or a 0 0) (tasks P)) (ltb (get_or a 1 0) (registers P)) (known_function (get_or a 2 0))
       (RequestUpdate (task_in a) (register_in a) (function_in a) (operand_in a))
 
@@ -113,8 +107,8 @@ module _ (P : Placement) (a : List ℕ) where
   at_3 = task_alone (Perform (task_in a))
 
   at_4 : at 4
-  unfolding decode_of decode known unnamed_zero task_there register_there card_there function_there names_task names_card names_register names_chosen names_function command_of pair_number
-  at_4 = three 14 (rest_zero a) (ltb (get_or a 0 0) (tasks P)) (ltb (get_or a 1 0) P.cards) (SendRead (task_in a) (chosen_in a)) (omega arith)
+  unfolding decode_of decode known unnamed_zero task_there register_there card_there function_there names_task names_card names_register names_chosen names_function command_of pair_judged
+  at_4 = three NoCard (rest_zero a) (ltb (get_or a 0 0) (tasks P)) (ltb (get_or a 1 0) P.cards) (SendRead (task_in a) (chosen_in a))
       ∙ ap (λ b. need b 11 (need (ltb (get_or a 0 0) (tasks P)) 12 (need (ltb (get_or a 1 0) P.cards) 14 (good (send_read (get_or a 0 0) (get_or a 1 0)))))) (sym (rest_is a))
 
   at_5 : at 5
@@ -178,70 +172,63 @@ module _ (P : Placement) (a : List ℕ) where
 
 -- ---- what a decoded step names is in range
 
-module _ (cards registers tasks : ℕ) where
-  abbrev pub InRange : Command → Type 0
-  InRange (RequestRead t x) = (t.0 < tasks) × (x.0 < registers)
-  InRange (RequestUpdate t x f w) = (t.0 < tasks) × (x.0 < registers) × (known_function f ≡ true)
-  InRange (Perform t) = t.0 < tasks
-  InRange (SendRead t j) = (t.0 < tasks) × (j.0 < cards)
-  InRange (SendUpdate t) = t.0 < tasks
-  InRange (Dispatch i) = i.0 < cards
-  InRange (TakeBroadcast i) = i.0 < cards
-  InRange (TakeSingle t) = t.0 < tasks
-  InRange (Deliver i) = i.0 < cards
-  InRange (Report t) = t.0 < tasks
-  InRange (Refused n) = n ≢ 0
+refused : (r : Refusal) → refusal_number r ≢ 0
+refused r = (refusals_meaning.not_taken r).0
 
-  either : (b : Bool) (d e : Command) → InRange d → InRange e → InRange (cond b d e)
+module _ (cards registers tasks : ℕ) where
+  either : (b : Bool) (d e : Result Command Refusal) → DecodedInRange cards registers tasks d → DecodedInRange cards registers tasks e → DecodedInRange cards registers tasks (cond b d e)
   either true d e x y = x
   either false d e x y = y
 
-  range_two : (m : ℕ) (p b c : Bool) (C : Command) → m ≢ 0 → (c ≡ true → InRange C) → InRange (decided (cond p (cond b (cond c 0 m) 11) 11) C)
+  range_two : (absent : Refusal) (p b c : Bool) (C : Command) → (c ≡ true → InRange cards registers tasks C)
+      → DecodedInRange cards registers tasks (decided (cond p (cond b (cond c (Ok tt) (Err absent)) (Err NotZero)) (Err NotZero)) C)
   unfolding decided
-  range_two m true true true C h f = f refl
-  range_two m true true false C h f = rw (ne_eqb m 0 h) h
-  range_two m true false c C h f = λ e. absurd (omega arith)
-  range_two m false b c C h f = λ e. absurd (omega arith)
+  range_two absent true true true C f = f refl
+  range_two absent true true false C f = refused absent
+  range_two absent true false c C f = refused NotZero
+  range_two absent false b c C f = refused NotZero
 
-  range_three : (m : ℕ) (b c d : Bool) (C : Command) → m ≢ 0 → (c ≡ true → d ≡ true → InRange C) → InRange (decided (cond b (cond c (cond d 0 m) 12) 11) C)
+  range_three : (absent : Refusal) (b c d : Bool) (C : Command) → (c ≡ true → d ≡ true → InRange cards registers tasks C)
+      → DecodedInRange cards registers tasks (decided (cond b (cond c (cond d (Ok tt) (Err absent)) (Err NoTask)) (Err NotZero)) C)
   unfolding decided
-  range_three m true true true C h f = f refl refl
-  range_three m true true false C h f = rw (ne_eqb m 0 h) h
-  range_three m true false d C h f = λ e. absurd (omega arith)
-  range_three m false c d C h f = λ e. absurd (omega arith)
+  range_three absent true true true C f = f refl refl
+  range_three absent true true false C f = refused absent
+  range_three absent true false d C f = refused NoTask
+  range_three absent false c d C f = refused NotZero
 
-  range_four : (b c d e : Bool) (C : Command) → (c ≡ true → d ≡ true → e ≡ true → InRange C) → InRange (decided (cond b (cond c (cond d (cond e 0 15) 13) 12) 11) C)
+  range_four : (b c d e : Bool) (C : Command) → (c ≡ true → d ≡ true → e ≡ true → InRange cards registers tasks C)
+      → DecodedInRange cards registers tasks (decided (cond b (cond c (cond d (cond e (Ok tt) (Err NoFunction)) (Err NoRegister)) (Err NoTask)) (Err NotZero)) C)
   unfolding decided
   range_four true true true true C f = f refl refl refl
-  range_four true true true false C f = λ q. absurd (omega arith)
-  range_four true true false e C f = λ q. absurd (omega arith)
-  range_four true false d e C f = λ q. absurd (omega arith)
-  range_four false c d e C f = λ q. absurd (omega arith)
+  range_four true true true false C f = refused NoFunction
+  range_four true true false e C f = refused NoRegister
+  range_four true false d e C f = refused NoTask
+  range_four false c d e C f = refused NotZero
 
-  task_range : (a : List ℕ) (C : Command) → (get_or a 0 0 < tasks → InRange C) → InRange (decided (task_number a tasks) C)
-  unfolding alone_number
-  task_range a C f = range_two 12 (eqb (get_or a 1 0) 0) (rest_zero a) (ltb (get_or a 0 0) tasks) C (omega arith) (λ e. f (ltb-true _ _ e))
+  task_range : (a : List ℕ) (C : Command) → (get_or a 0 0 < tasks → InRange cards registers tasks C) → DecodedInRange cards registers tasks (decided (task_judged a tasks) C)
+  unfolding alone_judged
+  task_range a C f = range_two NoTask (eqb (get_or a 1 0) 0) (rest_zero a) (ltb (get_or a 0 0) tasks) C (λ e. f (ltb-true _ _ e))
 
-  card_range : (a : List ℕ) (C : Command) → (get_or a 0 0 < cards → InRange C) → InRange (decided (card_number a cards) C)
-  unfolding alone_number
-  card_range a C f = range_two 14 (eqb (get_or a 1 0) 0) (rest_zero a) (ltb (get_or a 0 0) cards) C (omega arith) (λ e. f (ltb-true _ _ e))
+  card_range : (a : List ℕ) (C : Command) → (get_or a 0 0 < cards → InRange cards registers tasks C) → DecodedInRange cards registers tasks (decided (card_judged a cards) C)
+  unfolding alone_judged
+  card_range a C f = range_two NoCard (eqb (get_or a 1 0) 0) (rest_zero a) (ltb (get_or a 0 0) cards) C (λ e. f (ltb-true _ _ e))
 
-  read_range : (a : List ℕ) → InRange (decided (read_number a registers tasks) (RequestRead (task_in a) (register_in a)))
-  unfolding pair_number
-  read_range a = range_three 13 (rest_zero a) (ltb (get_or a 0 0) tasks) (ltb (get_or a 1 0) registers) (RequestRead (task_in a) (register_in a)) (omega arith)
+  read_range : (a : List ℕ) → DecodedInRange cards registers tasks (decided (read_judged a registers tasks) (RequestRead (task_in a) (register_in a)))
+  unfolding pair_judged
+  read_range a = range_three NoRegister (rest_zero a) (ltb (get_or a 0 0) tasks) (ltb (get_or a 1 0) registers) (RequestRead (task_in a) (register_in a))
       (λ e g. (ltb-true _ _ e, ltb-true _ _ g))
 
-  chosen_range : (a : List ℕ) → InRange (decided (chosen_number a cards tasks) (SendRead (task_in a) (chosen_in a)))
-  unfolding pair_number
-  chosen_range a = range_three 14 (rest_zero a) (ltb (get_or a 0 0) tasks) (ltb (get_or a 1 0) cards) (SendRead (task_in a) (chosen_in a)) (omega arith)
+  chosen_range : (a : List ℕ) → DecodedInRange cards registers tasks (decided (chosen_judged a cards tasks) (SendRead (task_in a) (chosen_in a)))
+  unfolding pair_judged
+  chosen_range a = range_three NoCard (rest_zero a) (ltb (get_or a 0 0) tasks) (ltb (get_or a 1 0) cards) (SendRead (task_in a) (chosen_in a))
       (λ e g. (ltb-true _ _ e, ltb-true _ _ g))
 
-  update_range : (a : List ℕ) → InRange (decided (update_number a registers tasks) (RequestUpdate (task_in a) (register_in a) (function_in a) (operand_in a)))
-  unfolding update_number
+  update_range : (a : List ℕ) → DecodedInRange cards registers tasks (decided (update_judged a registers tasks) (RequestUpdate (task_in a) (register_in a) (function_in a) (operand_in a)))
+  unfolding update_judged
   update_range a = range_four (eqb (get_or a 3 0) 0) (ltb (get_or a 0 0) tasks) (ltb (get_or a 1 0) registers) (known_function (get_or a 2 0))
       (RequestUpdate (task_in a) (register_in a) (function_in a) (operand_in a)) (λ c d e. (ltb-true _ _ c, ltb-true _ _ d, e))
 
-  pub decode_range : (code : ℕ) (a : List ℕ) → InRange (decode_of code a cards registers tasks)
+  pub decode_range : (code : ℕ) (a : List ℕ) → DecodedInRange cards registers tasks (decode_of code a cards registers tasks)
   unfolding decode_of
   decode_range code a =
       either (eqb code 1) _ _ (read_range a)
@@ -254,4 +241,4 @@ module _ (cards registers tasks : ℕ) where
       (either (eqb code 8) _ _ (task_range a (TakeSingle (task_in a)) (λ h. h))
       (either (eqb code 9) _ _ (card_range a (Deliver (card_in a)) (λ h. h))
       (either (eqb code 10) _ _ (task_range a (Report (task_in a)) (λ h. h))
-      (λ e. absurd (omega arith)))))))))))
+      (refused NoStep))))))))))

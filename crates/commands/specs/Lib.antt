@@ -1,1 +1,2 @@
 pub mod Decode
+pub mod Shown

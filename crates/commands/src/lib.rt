@@ -7,9 +7,8 @@ mod steps;
 
 pub use steps::decode;
 
-// What a code and its argument are: one of the ten steps, decoded, or refused with a number from 10 to 15. One enum and not two, so that
-// the code is looked at once.
-#[derive(Clone, Copy)]
+// What a code and its argument are: one of the ten steps, decoded.
+#[derive(Clone, Copy, Debug, PartialEq, Eq)]
 pub enum Command {
     RequestRead(Task, Register),
     // function and operand
@@ -23,5 +22,4 @@ pub enum Command {
     TakeSingle(Task),
     Deliver(Card),
     Report(Task),
-    Refused(u8),
 }

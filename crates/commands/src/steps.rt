@@ -1,198 +1,151 @@
 // Which step a code and its argument are.
-ghost use Rattle.std.specs.Prelude.{◌≡◌, ◌<◌, get_or};
+ghost use Rattle.std.specs.Prelude.{◌≡◌, MatchResult};
 ghost use Rattle.channel.specs.Layout.{cards_of, tasks_of, registers_of};
-ghost use Rattle.commands.specs.Decode.{byte_of, task_in, card_in, register_in, chosen_in, function_in, operand_in, rest_zero, decided, alone_number, pair_number, read_number, chosen_number, update_number, decode_of};
+ghost use Rattle.commands.specs.Decode.{task_in, card_in, register_in, chosen_in, function_in, operand_in, rest_zero, decided, alone_judged, pair_judged, read_judged, chosen_judged, update_judged, task_judged, card_judged, decode_of};
 ghost use Rattle.commands.specs.declared.Command.TheVariants.{RequestRead, RequestUpdate, SendRead};
 
 use crate::Command;
 use channel::{cards, registers, tasks};
+use names::refusals::Refusal;
 use names::{Card, Register, Task, known_function};
 
-// A byte of the argument.
-fn byte(argument: [u8; 8], k: usize) -> u32
-    requires { k < 8 }
-    ensures { (result ≡ byte_of argument k) × (result < 256) }
-{
-    argument[k] as u32
-}
-
 // Bytes 4 to 7, low byte first.
+#[tactic(auto, unfolding(crate::specs::Decode::operand_in))]
 fn operand(argument: [u8; 8]) -> u32
     ensures { result ≡ operand_in argument }
 {
-    byte(argument, 4)
-        + 256 * (byte(argument, 5) + 256 * (byte(argument, 6) + 256 * byte(argument, 7)))
+    u32::from_le_bytes([argument[4], argument[5], argument[6], argument[7]])
 }
 
 // Whether bytes 2 to 7 are zero.
+#[tactic(auto, using(lists::specs::Tests::cases), unfolding(crate::specs::Decode::rest_zero))]
 fn rest_zero(argument: [u8; 8]) -> bool
     ensures { result ≡ rest_zero argument }
 {
-    (argument[2] == 0)
-        & (argument[3] == 0)
-        & (argument[4] == 0)
-        & (argument[5] == 0)
-        & (argument[6] == 0)
-        & (argument[7] == 0)
+    u64::from_le_bytes(argument) < 65536
 }
 
-// The command where the number is 0, else the refusal.
-fn decided(number: u8, command: Command) -> Command
-    ensures { result ≡ decided number command }
+// Whether byte 0 alone is named, one of so many; `absent` where there are not as many.
+#[tactic(auto, using(lists::specs::Tests::cases), unfolding(crate::specs::Decode::alone_judged))]
+fn judge_alone(argument: [u8; 8], count: u32, absent: Refusal) -> Result<(), Refusal>
+    ensures { result ≡ alone_judged argument count absent }
 {
-    if number == 0 {
-        return command;
+    if argument[1] != 0 || !rest_zero(argument) {
+        return Err(Refusal::NotZero);
     }
-    Command::Refused(number)
+    if count <= argument[0] as u32 {
+        return Err(absent);
+    }
+    Ok(())
 }
 
-// The command of an argument that names in byte 0 alone one of so many; else 11, then the number of what it names.
-fn alone(argument: [u8; 8], count: u32, number: u8, command: Command) -> Command
-    requires { 0 < number }
-    ensures { result ≡ decided (alone_number argument count number) command }
-{
-    if byte(argument, 1) != 0 {
-        return Command::Refused(11);
-    }
-    if !rest_zero(argument) {
-        return Command::Refused(11);
-    }
-    if count <= byte(argument, 0) {
-        return Command::Refused(number);
-    }
-    command
-}
-
-// A task and, in byte 1, one of so many.
-fn pair_number(argument: [u8; 8], tasks: u32, count: u32, number: u8) -> u8
-    ensures { result ≡ pair_number argument tasks count number }
+// Whether a task is named and, in byte 1, one of so many; `absent` where there are not as many.
+#[tactic(auto, using(lists::specs::Tests::cases), unfolding(crate::specs::Decode::pair_judged))]
+fn judge_pair(argument: [u8; 8], tasks: u32, count: u32, absent: Refusal) -> Result<(), Refusal>
+    ensures { result ≡ pair_judged argument tasks count absent }
 {
     if !rest_zero(argument) {
-        return 11;
+        return Err(Refusal::NotZero);
     }
-    if tasks <= byte(argument, 0) {
-        return 12;
+    if tasks <= argument[0] as u32 {
+        return Err(Refusal::NoTask);
     }
-    if count <= byte(argument, 1) {
-        return number;
+    if count <= argument[1] as u32 {
+        return Err(absent);
     }
-    0
+    Ok(())
 }
 
-// A task, a register, a function and an operand.
-fn update_number(argument: [u8; 8], registers: u32, tasks: u32) -> u8
-    ensures { result ≡ update_number argument registers tasks }
+// Whether a task, a register, a function and an operand are named.
+#[tactic(auto, using(lists::specs::Tests::cases), unfolding(crate::specs::Decode::update_judged))]
+fn judge_update(argument: [u8; 8], registers: u32, tasks: u32) -> Result<(), Refusal>
+    ensures { result ≡ update_judged argument registers tasks }
 {
-    if byte(argument, 3) != 0 {
-        return 11;
+    if argument[3] != 0 {
+        return Err(Refusal::NotZero);
     }
-    if tasks <= byte(argument, 0) {
-        return 12;
+    if tasks <= argument[0] as u32 {
+        return Err(Refusal::NoTask);
     }
-    if registers <= byte(argument, 1) {
-        return 13;
+    if registers <= argument[1] as u32 {
+        return Err(Refusal::NoRegister);
     }
-    if !known_function(byte(argument, 2)) {
-        return 15;
+    if !known_function(argument[2] as u32) {
+        return Err(Refusal::NoFunction);
     }
-    0
+    Ok(())
 }
 
-fn request_read(argument: [u8; 8], registers: u32, tasks: u32) -> Command
-    ensures { result ≡ decided (read_number argument registers tasks) (RequestRead (task_in argument) (register_in argument)) }
+// The task that is named alone.
+// Kept beside `card_alone`: one for both would take what makes the value as a closure, with a premise and a clause on it, and be longer than both.
+fn task_alone(argument: [u8; 8], tasks: u32) -> Result<Task, Refusal>
+    ensures { MatchResult result (λ task. (task_judged argument tasks ≡ Ok tt) × (task ≡ task_in argument)) (λ refusal. task_judged argument tasks ≡ Err refusal) }
 {
-    let task = Task(byte(argument, 0));
-    let register = Register(byte(argument, 1));
-    decided(
-        pair_number(argument, tasks, registers, 13),
-        Command::RequestRead(task, register),
-    )
+    judge_alone(argument, tasks, Refusal::NoTask)?;
+    Ok(Task(argument[0] as u32))
 }
 
-fn request_update(argument: [u8; 8], registers: u32, tasks: u32) -> Command
-    ensures { result ≡ decided (update_number argument registers tasks) (RequestUpdate (task_in argument) (register_in argument) (function_in argument) (operand_in argument)) }
+// The card that is named alone.
+fn card_alone(argument: [u8; 8], cards: u32) -> Result<Card, Refusal>
+    ensures { MatchResult result (λ card. (card_judged argument cards ≡ Ok tt) × (card ≡ card_in argument)) (λ refusal. card_judged argument cards ≡ Err refusal) }
 {
-    let task = Task(byte(argument, 0));
-    let register = Register(byte(argument, 1));
-    decided(
-        update_number(argument, registers, tasks),
-        Command::RequestUpdate(task, register, byte(argument, 2), operand(argument)),
-    )
+    judge_alone(argument, cards, Refusal::NoCard)?;
+    Ok(Card(argument[0] as u32))
 }
 
-fn send_read(argument: [u8; 8], cards: u32, tasks: u32) -> Command
-    ensures { result ≡ decided (chosen_number argument cards tasks) (SendRead (task_in argument) (chosen_in argument)) }
+// Kept beside `send_read`, as `task_alone` is.
+#[tactic(auto, unfolding(crate::specs::Decode::decided))]
+fn request_read(argument: [u8; 8], registers: u32, tasks: u32) -> Result<Command, Refusal>
+    ensures { result ≡ decided (read_judged argument registers tasks) (RequestRead (task_in argument) (register_in argument)) }
 {
-    let task = Task(byte(argument, 0));
-    let chosen = Card(byte(argument, 1));
-    decided(
-        pair_number(argument, tasks, cards, 14),
-        Command::SendRead(task, chosen),
-    )
+    judge_pair(argument, tasks, registers, Refusal::NoRegister)?;
+    let task = Task(argument[0] as u32);
+    let register = Register(argument[1] as u32);
+    Ok(Command::RequestRead(task, register))
 }
 
-fn task_in(argument: [u8; 8]) -> Task
-    ensures { result ≡ task_in argument }
+#[tactic(auto, unfolding(crate::specs::Decode::decided))]
+fn request_update(argument: [u8; 8], registers: u32, tasks: u32) -> Result<Command, Refusal>
+    ensures { result ≡ decided (update_judged argument registers tasks) (RequestUpdate (task_in argument) (register_in argument) (function_in argument) (operand_in argument)) }
 {
-    Task(byte(argument, 0))
+    judge_update(argument, registers, tasks)?;
+    let task = Task(argument[0] as u32);
+    let register = Register(argument[1] as u32);
+    let function = argument[2] as u32;
+    let operand = operand(argument);
+    Ok(Command::RequestUpdate(task, register, function, operand))
 }
 
-fn card_in(argument: [u8; 8]) -> Card
-    ensures { result ≡ card_in argument }
+#[tactic(auto, unfolding(crate::specs::Decode::decided))]
+fn send_read(argument: [u8; 8], cards: u32, tasks: u32) -> Result<Command, Refusal>
+    ensures { result ≡ decided (chosen_judged argument cards tasks) (SendRead (task_in argument) (chosen_in argument)) }
 {
-    Card(byte(argument, 0))
+    judge_pair(argument, tasks, cards, Refusal::NoCard)?;
+    let task = Task(argument[0] as u32);
+    let chosen = Card(argument[1] as u32);
+    Ok(Command::SendRead(task, chosen))
 }
 
 // The command that a code and its argument are to a store with this channel, or their refusal. Each reads the sizes that it needs, no other.
-pub fn decode(channel: &[u32; channel::WORDS], code: u8, argument: [u8; 8]) -> Command
+#[tactic(auto, using(lists::specs::Tests::cases), unfolding(crate::specs::Decode::decode_of, crate::specs::Decode::decided))]
+pub fn decode(
+    channel: &[u32; channel::WORDS],
+    code: u8,
+    argument: [u8; 8],
+) -> Result<Command, Refusal>
     ensures { result ≡ decode_of code argument (cards_of channel.now) (registers_of channel.now) (tasks_of channel.now) }
 {
     match code {
         1 => request_read(argument, registers(channel), tasks(channel)),
         2 => request_update(argument, registers(channel), tasks(channel)),
-        3 => alone(
-            argument,
-            tasks(channel),
-            12,
-            Command::Perform(task_in(argument)),
-        ),
+        3 => Ok(Command::Perform(task_alone(argument, tasks(channel))?)),
         4 => send_read(argument, cards(channel), tasks(channel)),
-        5 => alone(
-            argument,
-            tasks(channel),
-            12,
-            Command::SendUpdate(task_in(argument)),
-        ),
-        6 => alone(
-            argument,
-            cards(channel),
-            14,
-            Command::Dispatch(card_in(argument)),
-        ),
-        7 => alone(
-            argument,
-            cards(channel),
-            14,
-            Command::TakeBroadcast(card_in(argument)),
-        ),
-        8 => alone(
-            argument,
-            tasks(channel),
-            12,
-            Command::TakeSingle(task_in(argument)),
-        ),
-        9 => alone(
-            argument,
-            cards(channel),
-            14,
-            Command::Deliver(card_in(argument)),
-        ),
-        10 => alone(
-            argument,
-            tasks(channel),
-            12,
-            Command::Report(task_in(argument)),
-        ),
-        0 | 11..=255 => Command::Refused(10),
+        5 => Ok(Command::SendUpdate(task_alone(argument, tasks(channel))?)),
+        6 => Ok(Command::Dispatch(card_alone(argument, cards(channel))?)),
+        7 => Ok(Command::TakeBroadcast(card_alone(argument, cards(channel))?)),
+        8 => Ok(Command::TakeSingle(task_alone(argument, tasks(channel))?)),
+        9 => Ok(Command::Deliver(card_alone(argument, cards(channel))?)),
+        10 => Ok(Command::Report(task_alone(argument, tasks(channel))?)),
+        _ => Err(Refusal::NoStep),
     }
 }

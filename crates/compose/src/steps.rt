@@ -1,84 +1,183 @@
-// A step in words, as nine bytes: its code, and the eight bytes of its argument (RULES 3.3).
-use super::words::{FAILED, Found, at_end, hex, number, one_of};
+// A step in words (RULES 3.3).
+use super::words::{Words, hexadecimal};
 
-// The operand, low byte first.
-fn put_operand(step: &mut [u8; 9], operand: u32) {
-    step[5] = (operand % 256) as u8;
-    step[6] = (operand / 256 % 256) as u8;
-    step[7] = (operand / 65536 % 256) as u8;
-    step[8] = (operand / 16777216 % 256) as u8;
+// The functions of an update, by their numbers.
+#[derive(Clone, Copy)]
+pub(crate) enum Function {
+    Set = 1,
+    AddToTop = 2,
+    Larger = 3,
+    Or = 4,
+    AddRound = 5,
 }
 
-// The function of an update and its operand.
-fn change(line: &[u8], from: usize, step: &mut [u8; 9]) -> usize {
-    let mut numbers = [0u32; 4];
-    let found = one_of(
-        line,
-        from,
-        b"set %;add stays at the top %;larger %;or %;add comes round %",
-        5,
-        &mut numbers,
-    );
-    step[3] = (found.value % 256) as u8;
-    put_operand(step, numbers[0]);
-    found.at
-}
-
-// The code and the argument as they stand in the file.
-fn raw(line: &[u8], from: usize, step: &mut [u8; 9]) -> usize {
-    let mut at = from;
-    let mut i: usize = 0;
-    while i < 9 {
-        let found = hex(line, at);
-        step[i] = (found.value % 256) as u8;
-        at = found.at;
-        i += 1;
+impl Function {
+    fn read(words: &mut Words) -> Option<Function> {
+        match words.next()? {
+            b"set" => Some(Function::Set),
+            b"add" => Function::addition(words),
+            b"larger" => Some(Function::Larger),
+            b"or" => Some(Function::Or),
+            _ => None,
+        }
     }
-    at
+
+    // What an addition does at the top.
+    fn addition(words: &mut Words) -> Option<Function> {
+        match words.next()? {
+            b"stays" => {
+                words.expect("at the top")?;
+                Some(Function::AddToTop)
+            }
+            b"comes" => {
+                words.expect("round")?;
+                Some(Function::AddRound)
+            }
+            _ => None,
+        }
+    }
 }
 
-// What follows the first words.
-fn rest(line: &[u8], found: Found, step: &mut [u8; 9]) -> usize {
-    if found.value == 2 {
-        return change(line, found.at, step);
-    }
-    if found.value == 11 {
-        return raw(line, found.at, step);
-    }
-    found.at
+#[derive(Clone, Copy)]
+pub(crate) enum Step {
+    RequestRead {
+        task: u8,
+        register: u8,
+    },
+    RequestUpdate {
+        task: u8,
+        register: u8,
+        function: Function,
+        operand: u32,
+    },
+    Perform {
+        task: u8,
+    },
+    SendRead {
+        task: u8,
+        card: u8,
+    },
+    SendUpdate {
+        task: u8,
+    },
+    Dispatch {
+        card: u8,
+    },
+    TakeBroadcast {
+        card: u8,
+    },
+    TakeSingle {
+        task: u8,
+    },
+    Deliver {
+        card: u8,
+    },
+    Report {
+        task: u8,
+    },
+    // As it stands in the file.
+    Bytes {
+        code: u8,
+        argument: [u8; 8],
+    },
 }
 
-// A step, by its code; the eleventh phrase is for any code.
-pub(crate) fn read(line: &[u8], from: usize, step: &mut [u8; 9]) -> usize {
-    let mut numbers = [0u32; 4];
-    let found = one_of(
-        line,
-        from,
-        b"request read task # register #;request update task # register #;perform task #;send read task # to card #;send update task #;dispatch card #;take broadcast card #;take single task #;deliver card #;report task #;bytes",
-        11,
-        &mut numbers,
-    );
-    step[0] = (found.value % 256) as u8;
-    step[1] = (numbers[0] % 256) as u8;
-    step[2] = (numbers[1] % 256) as u8;
-    rest(line, found, step)
-}
-
-// The number before a step, if one stands there; else the one that is next.
-pub(crate) fn numbered(line: &[u8], next: u32) -> Found {
-    let found = number(line, 0, 4294967295);
-    if found.at == FAILED {
-        return Found { at: 0, value: next };
+impl Step {
+    // The step that the next words say.
+    pub(crate) fn read(words: &mut Words) -> Option<Step> {
+        match words.next()? {
+            b"request" => Step::request(words),
+            b"perform" => Some(Step::Perform {
+                task: words.byte_after("task")?,
+            }),
+            b"send" => Step::send(words),
+            b"dispatch" => Some(Step::Dispatch {
+                card: words.byte_after("card")?,
+            }),
+            b"take" => Step::take(words),
+            b"deliver" => Some(Step::Deliver {
+                card: words.byte_after("card")?,
+            }),
+            b"report" => Some(Step::Report {
+                task: words.byte_after("task")?,
+            }),
+            b"bytes" => Step::bytes(words),
+            _ => None,
+        }
     }
-    found
-}
 
-// Whether a step may end here: nothing follows, or what was answered.
-pub(crate) fn ends(line: &[u8], at: usize) -> bool {
-    if at_end(line, at) {
-        return true;
+    fn request(words: &mut Words) -> Option<Step> {
+        match words.next()? {
+            b"read" => Some(Step::RequestRead {
+                task: words.byte_after("task")?,
+                register: words.byte_after("register")?,
+            }),
+            b"update" => Some(Step::RequestUpdate {
+                task: words.byte_after("task")?,
+                register: words.byte_after("register")?,
+                function: Function::read(words)?,
+                operand: words.number()?,
+            }),
+            _ => None,
+        }
     }
-    let mut numbers = [0u32; 4];
-    let found = one_of(line, at, b"taken;held;refused", 3, &mut numbers);
-    found.at != FAILED
+
+    fn send(words: &mut Words) -> Option<Step> {
+        match words.next()? {
+            b"read" => Some(Step::SendRead {
+                task: words.byte_after("task")?,
+                card: words.byte_after("to card")?,
+            }),
+            b"update" => Some(Step::SendUpdate {
+                task: words.byte_after("task")?,
+            }),
+            _ => None,
+        }
+    }
+
+    fn take(words: &mut Words) -> Option<Step> {
+        match words.next()? {
+            b"broadcast" => Some(Step::TakeBroadcast {
+                card: words.byte_after("card")?,
+            }),
+            b"single" => Some(Step::TakeSingle {
+                task: words.byte_after("task")?,
+            }),
+            _ => None,
+        }
+    }
+
+    fn bytes(words: &mut Words) -> Option<Step> {
+        let code = hexadecimal(words.next()?)?;
+        let mut argument = [0; 8];
+        for byte in &mut argument {
+            *byte = hexadecimal(words.next()?)?;
+        }
+        Some(Step::Bytes { code, argument })
+    }
+
+    // Its code and its argument in the file.
+    pub(crate) fn in_file(self) -> (u8, [u8; 8]) {
+        match self {
+            Step::RequestRead { task, register } => (1, [task, register, 0, 0, 0, 0, 0, 0]),
+            Step::RequestUpdate {
+                task,
+                register,
+                function,
+                operand,
+            } => {
+                let [a, b, c, d] = operand.to_le_bytes();
+                (2, [task, register, function as u8, 0, a, b, c, d])
+            }
+            Step::Perform { task } => (3, [task, 0, 0, 0, 0, 0, 0, 0]),
+            Step::SendRead { task, card } => (4, [task, card, 0, 0, 0, 0, 0, 0]),
+            Step::SendUpdate { task } => (5, [task, 0, 0, 0, 0, 0, 0, 0]),
+            Step::Dispatch { card } => (6, [card, 0, 0, 0, 0, 0, 0, 0]),
+            Step::TakeBroadcast { card } => (7, [card, 0, 0, 0, 0, 0, 0, 0]),
+            Step::TakeSingle { task } => (8, [task, 0, 0, 0, 0, 0, 0, 0]),
+            Step::Deliver { card } => (9, [card, 0, 0, 0, 0, 0, 0, 0]),
+            Step::Report { task } => (10, [task, 0, 0, 0, 0, 0, 0, 0]),
+            Step::Bytes { code, argument } => (code, argument),
+        }
+    }
 }

@@ -1,49 +1,59 @@
-// Input that cannot be read or used, output that cannot be written: the program says so on standard error and ends with a status that is not 0,
-// which is what `main` returns.
-ghost use Rattle.std.specs.Prelude.{◌≡◌, ◌≤◌, length, IfOk};
+// How a program ends. One that cannot go on says why on standard error, in one line, and ends with a status that is not 0.
+ghost use Rattle.std.specs.Prelude.{◌≡◌, ◌≤◌, length, IfOk, OnErr, OnOk};
 ghost use Rattle.std.specs.Process.{exit_status};
 
+use std::fmt::Display;
 use std::io;
-use std::io::{Print, Read, Stderr};
+use std::io::{Read, Stderr, Write};
 use std::process::ExitCode;
+use thiserror::Error;
 
-fn tell_why(stderr: Stderr, name: &[u8], why: &[u8]) -> io::Result<()> {
-    stderr.write_all(name)?;
-    stderr.write_all(why)?;
-    stderr.write_all(b"\n")
+/// What every program can fail by.
+#[derive(Clone, Copy, Debug, PartialEq, Eq, Error)]
+pub enum Failure {
+    #[error("the input cannot be read")]
+    Unread,
+    #[error("standard output cannot be written")]
+    Unwritten,
 }
 
-// A program says why it cannot go on. Where it cannot say so either, the status still tells.
-pub fn failed(stderr: Stderr, name: &[u8], why: &[u8]) -> ExitCode
-    ensures { exit_status result ≡ 1 }
+// Input is read by `read_whole` alone: any other error is one of output.
+impl From<io::Error> for Failure {
+    ghost use Rattle.console.specs.declared.ending.Failure.TheVariants.{Unwritten};
+
+    ghost from_gives = { λ _ failure. failure ≡ Unwritten };
+
+    fn from(_error: io::Error) -> Failure {
+        Failure::Unwritten
+    }
+}
+
+/// What the program of that name ends with: all that its `main` has. Where it cannot say why either, the status still tells.
+pub fn ended<E: Display + Drop>(mut stderr: Stderr, name: &str, outcome: Result<(), E>) -> ExitCode
+    ensures ok { OnOk outcome (exit_status result ≡ 0) }
+    ensures err { OnErr outcome (exit_status result ≡ 1) }
 {
-    let _ = tell_why(stderr, name, why);
-    ExitCode::FAILURE
+    match outcome {
+        Ok(()) => ExitCode::SUCCESS,
+        Err(why) => {
+            let _ = writeln!(stderr, "{name}: {why}");
+            ExitCode::FAILURE
+        }
+    }
 }
 
 // Reads an input to its end or until the buffer is full: how many bytes it put at the start of the buffer.
-pub fn read_whole(input: &mut impl Read, buffer: &mut [u8]) -> io::Result<usize>
+// Kept: a loop over reads. `read_to_end` wants an allocator and has no limit, and `read_exact` doesn't say how much it read before the end.
+pub fn read_whole(input: &mut impl Read, buffer: &mut [u8]) -> Result<usize, Failure>
     ensures { IfOk result (λ n. n ≤ length buffer.new) }
 {
-    let mut done: usize = 0;
+    let mut done = 0;
     while done < buffer.len() {
-        let n = input.read(&mut buffer[done..])?;
-        if n == 0 {
-            return Ok(done);
+        match input.read(&mut buffer[done..]) {
+            Ok(0) => break,
+            Ok(n) => done += n,
+            Err(_) => return Err(Failure::Unread),
         }
-        done += n;
     }
     Ok(done)
-}
-
-pub fn unread(stderr: Stderr, name: &[u8]) -> ExitCode
-    ensures { exit_status result ≡ 1 }
-{
-    failed(stderr, name, b": the input cannot be read")
-}
-
-pub fn unwritten(stderr: Stderr, name: &[u8]) -> ExitCode
-    ensures { exit_status result ≡ 1 }
-{
-    failed(stderr, name, b": standard output cannot be written")
 }

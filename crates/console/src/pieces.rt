@@ -1,23 +1,28 @@
-// Pieces of a text that is read or written.
+// Pieces of what is read and written.
+ghost use Rattle.std.specs.Prelude.{◌≡◌, ◌^◌, ◌<◌, All, IfSome, IsSome, IsTrue};
+ghost use Rattle.std.specs.Char.{is_ascii_digit};
+ghost use Rattle.std.specs.Str.Parse.{IsNumeral, digits_value, without_leading_plus};
 
-// The first n bytes, or all of them.
-pub fn prefix(bytes: &[u8], n: usize) -> &[u8] {
-    if bytes.len() < n {
-        return bytes;
+use std::io;
+use std::io::Write;
+
+/// The number that decimal digits alone make, if it has 32 bits. `parse` takes a sign too.
+pub fn decimal(text: &str) -> Option<u32>
+    ensures succeeds { All (λ c. IsTrue (is_ascii_digit c)) text.now → IsNumeral 10 (without_leading_plus text.now) →
+        digits_value 10 (without_leading_plus text.now) < 2 ^ 32 → IsSome result }
+    ensures digits { IfSome result (λ _. All (λ c. IsTrue (is_ascii_digit c)) text.now) }
+    ensures value { IfSome result (λ n. n ≡ digits_value 10 (without_leading_plus text.now)) }
+{
+    if !text.bytes().all(|byte| byte.is_ascii_digit()) {
+        return None;
     }
-    &bytes[..n]
+    text.parse().ok()
 }
 
-// A number with one more digit; larger than any number of 32 bits where it was so before, or the byte is no digit.
-pub fn with_digit(number: u64, byte: u8) -> u64 {
-    if 4294967295 < number {
-        return 4294967296;
+/// Bytes in hexadecimal, each after a space.
+pub fn hexadecimal(out: &mut impl Write, bytes: &[u8]) -> io::Result<()> {
+    for byte in bytes {
+        write!(out, " {byte:02x}")?;
     }
-    if byte < b'0' {
-        return 4294967296;
-    }
-    if b'9' < byte {
-        return 4294967296;
-    }
-    10 * number + (byte - b'0') as u64
+    Ok(())
 }

@@ -11,8 +11,7 @@ use Rattle.tally.specs.declared.Tally.{Tally}
 use Rattle.names.specs.Results.{is_taken}
 use Rattle.tally.specs.Tally.{counted, counted_steps, taken_in, refused_in}
 use Rattle.tally.proofs.TallyLaws.{Fits, counted_none, all_at_once}
-use Rattle.runfile.specs.declared.Answered.{Answered}
-use Rattle.runfile.specs.Run.{answers_in, is_refused, taken_of, refused_of, answer_refusal, answered_of}
+use Rattle.runfile.specs.Run.{Answered, answers_in, is_refused, taken_of, refused_of, answer_refusal, answered_of}
 use Rattle.firmware.specs.RunTally.{ran_tally}
 
 -- the refusal, where it is 0 and where it is not

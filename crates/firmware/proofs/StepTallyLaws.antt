@@ -1,4 +1,4 @@
--- A step counted by the two numbers that `step_counts` says of it is the step counted.
+-- A step counted by the two numbers that `count_of` says of it is the step counted.
 use Prim.Native.Nat.{ℕ}
 use mathlib.Core.Path.{◌≡◌, refl}
 use mathlib.Core.Bool.{Bool, true, false, cond}
@@ -14,8 +14,3 @@ counted_once t result = go (is_taken result)
     go : (b : Bool) → counted t (cond b 1 0) (cond b 0 1) ≡ cond b (counted t 1 0) (counted t 0 1)
     go true = refl
     go false = refl
-
--- the result itself is passed on
-pub result_is : (result : ℕ) → (counts_of result).result ≡ result
-unfolding counts_of
-result_is result = refl

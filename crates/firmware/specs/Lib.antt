@@ -1,2 +1,3 @@
 pub mod RunTally
 pub mod StepTally
+pub mod Value

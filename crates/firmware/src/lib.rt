@@ -1,8 +1,11 @@
 // The store for firmware: functions that C and Rust call (RULES 11.6). The caller lends both memories of a store, whole; include/gondzselu.h
 // declares what is here.
+// Kept: refusals as numbers, values beside them, placements in four parameters, the two memories apart, and functions that differ in one call, for
+// C calls these functions so.
 #![tactic(auto)]
 
 ghost use Rattle.std.specs.Prelude.{◌≡◌};
+ghost use Rattle.names.specs.Refusals.{number_of};
 ghost use Rattle.names.specs.Placement.{placement, placement_refusal};
 ghost use Rattle.channel.specs.Layout.{made_of, taken_by};
 ghost use Rattle.tables.specs.Layout.{requests_of};
@@ -18,12 +21,34 @@ ghost use Rattle.runfile.specs.Compose.{tables, compose_output, composed_of};
 ghost use Rattle.loads.specs.Load.{load_output};
 ghost use Rattle.firmware.specs.RunTally.{ran_tally};
 ghost use Rattle.firmware.specs.StepTally.{counts_of};
+ghost use Rattle.firmware.specs.Value.{value_of};
 ghost use Rattle.tally.specs.Tally.{counted_step};
 ghost use Rattle.words.specs.Sentence.{said_of, sentence_output};
 ghost use Rattle.totals.specs.Totals.{total_of, total_by_card};
 
+use names::placement::Placement;
+use names::refusals::Refusal;
 use names::{Card, Register, Task};
 use tally::Tally;
+
+// A refusal's number, 0 where there is none: so C has it.
+fn number<T: Drop>(judged: Result<T, Refusal>) -> u8
+    ensures { result ≡ number_of judged }
+{
+    match judged {
+        Ok(_) => 0,
+        Err(refusal) => refusal.into(),
+    }
+}
+
+// The same, and the value in what C lends, 0 where it is refused.
+fn told(said: Result<u32, Refusal>, value: &mut u32) -> u8
+    ensures value { value.new ≡ value_of said }
+    ensures number { result ≡ number_of said }
+{
+    *value = said.unwrap_or(0);
+    number(said)
+}
 
 // ---- sizes of the memories, in words of 32 bits
 
@@ -52,16 +77,17 @@ pub extern "C" fn gondzselu_version() -> u32
 // ---- a whole run
 
 // Answers a run file into a lent output: 0, or the refusal of the file or of the output (5) and the output as it was.
+#[tactic(auto, using(crate::proofs::RunTallyLaws::refusal_is))]
 #[unsafe(no_mangle)]
 pub extern "C" fn gondzselu_answer(file: &[u8], out: &mut [u8]) -> u8
     ensures output { out.new ≡ answer_output file.now out.old }
     ensures number { result ≡ answer_refusal file.now out.old }
 {
-    let said = runfile::answer(file, out);
-    said.refusal
+    number(runfile::answer(file, out))
 }
 
 // The same, with the run's steps counted in a lent tally. A refused file or output leaves it alone.
+#[tactic(auto, using(crate::proofs::RunTallyLaws::refusal_is), unfolding(crate::specs::RunTally::ran_tally))]
 #[unsafe(no_mangle)]
 pub extern "C" fn gondzselu_answer_counted(file: &[u8], out: &mut [u8], tally: &mut Tally) -> u8
     ensures output { out.new ≡ answer_output file.now out.old }
@@ -69,8 +95,12 @@ pub extern "C" fn gondzselu_answer_counted(file: &[u8], out: &mut [u8], tally: &
     ensures number { result ≡ answer_refusal file.now out.old }
 {
     let said = runfile::answer(file, out);
-    tally::count(tally, said.taken, said.refused);
-    said.refusal
+    let run = said.unwrap_or(Tally {
+        taken: 0,
+        refused: 0,
+    });
+    tally.count(run.taken, run.refused);
+    number(said)
 }
 
 // Writes the run file of a placement and of a table of codes and one of arguments, eight bytes a step, into a lent output: 0, or the refusal of
@@ -90,9 +120,13 @@ pub extern "C" fn gondzselu_write(
     ensures length { length.new ≡ (composed_of (tables cards homes.now copies.now primaries.now codes.now arguments.now) out.old).length }
     ensures number { result ≡ (composed_of (tables cards homes.now copies.now primaries.now codes.now arguments.now) out.old).refusal }
 {
-    let said = runfile::compose(cards, homes, copies, primaries, codes, arguments, out);
-    *length = said.length;
-    said.refusal
+    let placement = Placement {
+        cards,
+        homes,
+        copies,
+        primaries,
+    };
+    told(runfile::compose(&placement, codes, arguments, out), length)
 }
 
 // Writes the load of a seed, for a placement and a number of steps, into a lent output: 0, or the refusal of the placement or the number (3, 4) or
@@ -112,9 +146,13 @@ pub extern "C" fn gondzselu_load(
     ensures length { length.new ≡ (head_of (placement cards homes.now copies.now primaries.now) steps out.old).length }
     ensures number { result ≡ (head_of (placement cards homes.now copies.now primaries.now) steps out.old).refusal }
 {
-    let said = loads::load(seed, cards, homes, copies, primaries, steps, out);
-    *length = said.length;
-    said.refusal
+    let placement = Placement {
+        cards,
+        homes,
+        copies,
+        primaries,
+    };
+    told(loads::load(seed, &placement, steps, out), length)
 }
 
 // ---- a store
@@ -133,7 +171,13 @@ pub extern "C" fn gondzselu_start(
     ensures channel { channel.new ≡ start_channel (placement cards homes.now copies.now primaries.now) channel.old }
     ensures number { result ≡ placement_refusal (placement cards homes.now copies.now primaries.now) }
 {
-    store::start(registers, channel, cards, homes, copies, primaries)
+    let placement = Placement {
+        cards,
+        homes,
+        copies,
+        primaries,
+    };
+    number(store::start(registers, channel, &placement))
 }
 
 // Begins a store from the placement in a run file: 0, or the refusal of the file (1 to 4) and both memories as they were.
@@ -147,7 +191,7 @@ pub extern "C" fn gondzselu_start_file(
     ensures channel { channel.new ≡ file_channel file.now channel.old }
     ensures number { result ≡ file_refusal file.now }
 {
-    runfile::start(file, registers, channel)
+    number(runfile::start(file, registers, channel))
 }
 
 // One step: its result, 0 where it is taken, 100 where it is taken and its message is held, and its value.
@@ -169,48 +213,26 @@ pub extern "C" fn gondzselu_step(
     answer.result
 }
 
-// A step's result, and the step as a tally counts it.
-#[derive(Clone, Copy)]
-struct Counts {
-    result: u8,
-    taken: u32,
-    refused: u32,
-}
-
-fn count_of(res: u8) -> Counts
+// A step by its result, as a tally counts it.
+#[tactic(auto, unfolding(crate::specs::StepTally::counts_of))]
+fn count_of(res: u8) -> Tally
     ensures { result ≡ counts_of res }
 {
     if names::is_taken(res) {
-        return Counts {
-            result: res,
+        Tally {
             taken: 1,
             refused: 0,
-        };
+        }
+    } else {
+        Tally {
+            taken: 0,
+            refused: 1,
+        }
     }
-    Counts {
-        result: res,
-        taken: 0,
-        refused: 1,
-    }
-}
-
-fn step_counts(
-    registers: &mut [u32; 593],
-    channel: &mut [u32; channel::WORDS],
-    code: u8,
-    argument: &[u8; 8],
-    value: &mut u32,
-) -> Counts
-    ensures registers { registers.new ≡ (stepped registers.old channel.old code argument.now).registers }
-    ensures channel { channel.new ≡ (stepped registers.old channel.old code argument.now).channel }
-    ensures value { value.new ≡ (stepped registers.old channel.old code argument.now).answer.value }
-    ensures counts { result ≡ counts_of (stepped registers.old channel.old code argument.now).answer.result }
-{
-    let result = gondzselu_step(registers, channel, code, argument, value);
-    count_of(result)
 }
 
 // `gondzselu_step`, and the step counted in a lent tally: every refusal counts, 6 too.
+#[tactic(auto, using(crate::proofs::StepTallyLaws::counted_once))]
 #[unsafe(no_mangle)]
 pub extern "C" fn gondzselu_step_counted(
     registers: &mut [u32; 593],
@@ -226,9 +248,10 @@ pub extern "C" fn gondzselu_step_counted(
     ensures tally { tally.new ≡ counted_step tally.old (stepped registers.old channel.old code argument.now).answer.result }
     ensures result { result ≡ (stepped registers.old channel.old code argument.now).answer.result }
 {
-    let said = step_counts(registers, channel, code, argument, value);
-    tally::count(tally, said.taken, said.refused);
-    said.result
+    let result = gondzselu_step(registers, channel, code, argument, value);
+    let step = count_of(result);
+    tally.count(step.taken, step.refused);
+    result
 }
 
 // The step without the check of the state, for a store that only this library has written since its start: on every well-sized pair of
@@ -261,9 +284,7 @@ pub extern "C" fn gondzselu_sentence(step: u32, refusal: u8, out: &mut [u8], len
     ensures length { length.new ≡ (said_of step refusal out.old).length }
     ensures number { result ≡ (said_of step refusal out.old).refusal }
 {
-    let said = words::sentence(step, refusal, out);
-    *length = said.length;
-    said.refusal
+    told(words::sentence(step, refusal, out), length)
 }
 
 // ---- totals of a log: home cards and operands of updates by function 5, in two parallel lists
@@ -274,9 +295,7 @@ pub extern "C" fn gondzselu_total(cards: &[u8], operands: &[u32], total: &mut u3
     ensures total { total.new ≡ (total_of cards.now operands.now).total }
     ensures number { result ≡ (total_of cards.now operands.now).refusal }
 {
-    let said = totals::total(cards, operands);
-    *total = said.total;
-    said.refusal
+    told(totals::total(cards, operands), total)
 }
 
 // Each card's operands, then these sums: the same (totals, specs/TotalsMeaning, `TotalsSame`).
@@ -285,9 +304,7 @@ pub extern "C" fn gondzselu_total_by_card(cards: &[u8], operands: &[u32], total:
     ensures total { total.new ≡ (total_by_card cards.now operands.now).total }
     ensures number { result ≡ (total_by_card cards.now operands.now).refusal }
 {
-    let said = totals::total_by_card(cards, operands);
-    *total = said.total;
-    said.refusal
+    told(totals::total_by_card(cards, operands), total)
 }
 
 // ---- what a panel reads
@@ -328,7 +345,7 @@ pub extern "C" fn gondzselu_task(
 ) -> u32
     ensures { result ≡ doing_kind (doing_shown registers.now channel.now (record { 0 = task })) }
 {
-    store::kind_of(store::doing_of(registers, channel, Task(task)))
+    store::doing_of(registers, channel, Task(task)).kind()
 }
 
 // The value read by a task that is done with a read, the value found by one that is done with an update, the operand of one that asks for an
@@ -341,7 +358,7 @@ pub extern "C" fn gondzselu_task_value(
 ) -> u32
     ensures { result ≡ doing_value (doing_shown registers.now channel.now (record { 0 = task })) }
 {
-    store::value_of(store::doing_of(registers, channel, Task(task)))
+    store::doing_of(registers, channel, Task(task)).value()
 }
 
 // Broadcasts made.

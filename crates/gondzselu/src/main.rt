@@ -4,22 +4,18 @@
 // (runfile, specs/FileRun, `long_file`), so a longer input gets its right number too.
 #![tactic(auto)]
 
-use std::io::Print;
+use console::Failure;
+use std::io::Write;
 use std::process::ExitCode;
 
-fn answer(rt: HostRuntime, file: &[u8]) -> ExitCode {
-    let mut out = [0u8; 20482];
-    let count = runfile::reply(file, &mut out);
-    match rt.stdout().write_all(&out[..count]) {
-        Ok(()) => ExitCode::SUCCESS,
-        Err(_) => console::unwritten(rt.stderr(), b"gondzselu"),
-    }
+fn run(rt: HostRuntime) -> Result<(), Failure> {
+    let mut input = [0; 65536];
+    let n = console::read_whole(&mut rt.stdin(), &mut input)?;
+    let mut out = [0; 20482];
+    let count = runfile::reply(&input[..n], &mut out);
+    Ok(rt.stdout().write_all(&out[..count])?)
 }
 
 fn main(rt: HostRuntime) -> ExitCode {
-    let mut input = [0u8; 65536];
-    match console::read_whole(&mut rt.stdin(), &mut input) {
-        Ok(n) => answer(rt, &input[..n]),
-        Err(_) => console::unread(rt.stderr(), b"gondzselu"),
-    }
+    console::ended(rt.stderr(), "gondzselu", run(rt))
 }

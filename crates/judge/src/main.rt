@@ -13,47 +13,49 @@ mod answers;
 mod files;
 mod text;
 
-use std::io::Stdout;
+use console::{Failure, Page};
+use std::io;
+use std::io::Write;
 use std::process::ExitCode;
 
-fn act(stdout: Stdout, page: &mut [u8; 65536], at: usize, kind: u8, bytes: &[u8]) -> usize {
-    if kind == b'w' {
-        return answers::write(stdout, page, at, bytes);
+fn sample(out: &mut impl Write, line: &[u8]) -> io::Result<()> {
+    let [kind, _, rest @ ..] = line else {
+        return Ok(());
+    };
+    let colon = rest.iter().position(|byte| *byte == b':');
+    let (name, digits) = rest.split_at(colon.unwrap_or(rest.len()));
+    out.write_all(name)?;
+    write!(out, ": ")?;
+    let given = text::given(digits);
+    match *kind {
+        b'j' => files::judge(out, text::file(&given)),
+        b'w' => answers::write(out, &given),
+        _ => files::read(out, text::file(&given)),
     }
-    files::show(stdout, page, at, kind, bytes)
 }
 
-fn sample(stdout: Stdout, page: &mut [u8; 65536], at: usize, line: &[u8]) -> usize {
-    if line.len() < 2 {
-        return at;
+fn samples(out: &mut impl Write, input: &[u8]) -> io::Result<()> {
+    for line in input.split_inclusive(|byte| *byte == b'\n') {
+        let text = match line {
+            [text @ .., b'\n'] => text,
+            _ => line,
+        };
+        sample(out, text)?;
+        writeln!(out)?;
     }
-    let colon = text::end_of(line, 2, b':');
-    let a = text::title(stdout, page, at, &line[2..colon]);
-    act(stdout, page, a, line[0], &line[colon..])
+    Ok(())
 }
 
-fn samples(stdout: Stdout, page: &mut [u8; 65536], input: &[u8]) -> usize {
-    let mut next: usize = 0;
-    let mut from: usize = 0;
-    while from < input.len() {
-        let end = text::end_of(input, from, b'\n');
-        let a = sample(stdout, page, next, &input[from..end]);
-        next = console::put(stdout, page, a, b'\n');
-        from = end + 1;
-    }
-    next
-}
-
-fn judge(rt: HostRuntime, input: &[u8]) -> ExitCode {
-    let mut page = [0u8; 65536];
-    let at = samples(rt.stdout(), &mut page, input);
-    console::finish(rt.stdout(), rt.stderr(), &page, at, b"judge")
+// Kept: five lines that sums and view have too; shared, console would have a public function with a contract, an edit and the premise that
+// the closure may be called.
+fn run(rt: HostRuntime) -> Result<(), Failure> {
+    let mut input = [0; 65536];
+    let n = console::read_whole(&mut rt.stdin(), &mut input)?;
+    let mut out = Page::new(rt.stdout());
+    samples(&mut out, &input[..n])?;
+    Ok(out.flush()?)
 }
 
 fn main(rt: HostRuntime) -> ExitCode {
-    let mut input = [0u8; 65536];
-    match console::read_whole(&mut rt.stdin(), &mut input) {
-        Ok(n) => judge(rt, &input[..n]),
-        Err(_) => console::unread(rt.stderr(), b"judge"),
-    }
+    console::ended(rt.stderr(), "judge", run(rt))
 }

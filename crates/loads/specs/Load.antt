@@ -4,10 +4,9 @@ use Rattle.std.proofs.lemmas.List.Edits.{sets}
 use Rattle.names.specs.Placement.{Placement, tasks, registers}
 use Rattle.names.specs.Step.{RawStep}
 use Rattle.claims.specs.Steps.{among}
-use Rattle.runfile.specs.declared.Composed.{Composed}
 use Rattle.runfile.specs.RunFile.{placement_in, RunFile, file_refusal, file_bytes}
 use Rattle.runfile.specs.AnswerFile.{four_bytes}
-use Rattle.runfile.specs.Head.{head_refusal, head_of}
+use Rattle.runfile.specs.Head.{Composed, head_refusal, head_of}
 
 -- ---- draws (RULES 17.2)
 

@@ -3,13 +3,15 @@ ghost use Rattle.std.specs.Prelude.{◌≡◌, ◌+◌, ◌%◌, ◌≤◌, ◌<
 ghost use Rattle.loads.specs.Load.{next, draw, code_from};
 
 // The state goes on.
+#[tactic(auto, unfolding(crate::specs::Load::next))]
 pub(crate) fn next(state: u32) -> u32
     ensures { result ≡ next state }
 {
-    ((1664525 * (state as u64) + 1013904223) % 4294967296) as u32
+    state.wrapping_mul(1664525).wrapping_add(1013904223)
 }
 
 // The state goes on before a draw.
+#[tactic(auto, unfolding(crate::specs::Load::draw, crate::specs::Load::next))]
 pub(crate) fn draw(state: u32) -> u32
     ensures { (result ≡ draw state) × (result < 65536) }
 {
@@ -17,6 +19,7 @@ pub(crate) fn draw(state: u32) -> u32
     new / 65536
 }
 
+#[tactic(auto, unfolding(crate::specs::Load::code_from))]
 pub(crate) fn code_from(state: u32) -> u32
     ensures { (result ≡ code_from state) × (result ≤ 10) }
 {

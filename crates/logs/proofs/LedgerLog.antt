@@ -20,15 +20,15 @@ use Rattle.claims.proofs.Current.{asked_listed, delivered_listed}
 use Rattle.claims.proofs.Executions.{Execution}
 use Rattle.logs.specs.Log.{is_sum}
 use Rattle.logs.specs.declared.Entry.{Entry}
-use Rattle.logs.specs.declared.Entry.TheVariants.{Nothing, Added}
-use Rattle.logs.specs.Entries.{entries, update_entry}
+use Rattle.std.specs.Prelude.{Option, None}
+use Rattle.logs.specs.Entries.{added, entries, update_entry}
 
 -- nothing more
-pub nothing_more : (l : List (ℕ × ℕ)) → l ≡ l ++ entries Nothing
+pub nothing_more : (l : List (ℕ × ℕ)) → l ≡ l ++ entries None
 unfolding entries
 nothing_more l = sym (append-nil l)
 
-one_more : (t : Bool) (c w : ℕ) (l : List (ℕ × ℕ)) → push t (c, w) l ≡ l ++ entries (cond t (Added c w) Nothing)
+one_more : (t : Bool) (c w : ℕ) (l : List (ℕ × ℕ)) → push t (c, w) l ≡ l ++ entries (cond t (added c w) None)
 unfolding entries
 one_more true c w l = refl
 one_more false c w l = sym (append-nil l)
@@ -54,7 +54,7 @@ module _ (P : Placement) (x : ℕ) where
     abbrev pub log_in : List ℕ → List (ℕ × ℕ)
     log_in l = map pair_in (filter adds_in l)
 
-    log_push : (t : Bool) (k : ℕ) (l : List ℕ) → log_in (push t k l) ≡ log_in l ++ entries (cond (t && adds_in k) (Added (home P (op_at ops k).task) (op_at ops k).arg) Nothing)
+    log_push : (t : Bool) (k : ℕ) (l : List ℕ) → log_in (push t k l) ≡ log_in l ++ entries (cond (t && adds_in k) (added (home P (op_at ops k).task) (op_at ops k).arg) None)
     log_push t k l =
         ap (map pair_in) (filter_push adds_in t k l)
         ∙ map_push pair_in (t && adds_in k) k (filter adds_in l)
@@ -73,16 +73,16 @@ module _ (P : Placement) (x : ℕ) where
       kept qs false r = refl
 
   -- what operation o adds, applied on card i
-  abbrev pub op_entry : ℕ → Op → Entry
-  op_entry i o = cond o.upd (update_entry P x i o.task o.reg o.fn o.arg) Nothing
+  abbrev pub op_entry : ℕ → Op → Option Entry
+  op_entry i o = cond o.upd (update_entry P x i o.task o.reg o.fn o.arg) None
 
-  op_entry_lem : (i : ℕ) (o : Op) → cond ((o.upd && eqb (primary P x) i) && (o.upd && eqb o.reg x && is_sum o.fn)) (Added (home P o.task) o.arg) Nothing ≡ op_entry i o
+  op_entry_lem : (i : ℕ) (o : Op) → cond ((o.upd && eqb (primary P x) i) && (o.upd && eqb o.reg x && is_sum o.fn)) (added (home P o.task) o.arg) None ≡ op_entry i o
   unfolding update_entry
   op_entry_lem i o =
-      ap (λ q. cond ((o.upd && q) && (o.upd && eqb o.reg x && is_sum o.fn)) (Added (home P o.task) o.arg) Nothing) (eqb_swap (primary P x) i)
+      ap (λ q. cond ((o.upd && q) && (o.upd && eqb o.reg x && is_sum o.fn)) (added (home P o.task) o.arg) None) (eqb_swap (primary P x) i)
       ∙ go o.upd (eqb i (primary P x)) (eqb o.reg x) (is_sum o.fn)
     where
-      go : (u q r f : Bool) → cond ((u && q) && (u && r && f)) (Added (home P o.task) o.arg) Nothing ≡ cond u (cond (r && f && q) (Added (home P o.task) o.arg) Nothing) Nothing
+      go : (u q r f : Bool) → cond ((u && q) && (u && r && f)) (added (home P o.task) o.arg) None ≡ cond u (cond (r && f && q) (added (home P o.task) o.arg) None) None
       go false q r f = refl
       go true true true true = refl
       go true true true false = refl
@@ -97,16 +97,16 @@ module _ (P : Placement) (x : ℕ) where
     log_of b = log_in b.ops (b.layer.applied (primary P x))
 
     -- what an action adds
-    abbrev pub act_entry : Ledger U → Action U → Entry
-    act_entry b (request o) = Nothing
+    abbrev pub act_entry : Ledger U → Action U → Option Entry
+    act_entry b (request o) = None
     act_entry b (perform c k) = op_entry (home P (op_at b.ops k).task) (op_at b.ops k)
-    act_entry b (send c k i) = Nothing
-    act_entry b (dispatch i m) = Nothing
-    act_entry b (take_broadcast i) = Nothing
-    act_entry b (take_single c) = Nothing
+    act_entry b (send c k i) = None
+    act_entry b (dispatch i m) = None
+    act_entry b (take_broadcast i) = None
+    act_entry b (take_single c) = None
     act_entry b (deliver (ask k) i) = op_entry i (op_at b.ops k)
-    act_entry b (deliver (reply k v) i) = Nothing
-    act_entry b (report c k v) = Nothing
+    act_entry b (deliver (reply k v) i) = None
+    act_entry b (report c k v) = None
 
     module _ (ok : placement_refusal P ≡ 0) where
       -- what a card has applied is in the list of operations

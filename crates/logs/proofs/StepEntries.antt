@@ -33,8 +33,8 @@ use Rattle.claims.proofs.Shown.{numbers}
 use Rattle.claims.proofs.Taken.{taken, notes_taken, notes_refused}
 use Rattle.commands.specs.Decode.{decode_of}
 use Rattle.commands.specs.declared.Command as D
-use Rattle.commands.specs.declared.Command.TheVariants.{RequestRead, RequestUpdate, Perform, SendRead, SendUpdate, Dispatch, TakeBroadcast, TakeSingle, Deliver, Report, Refused}
-use Rattle.commands.proofs.DecodeLaw.{command_shown, InRange, decode_is, decode_range}
+use Rattle.commands.specs.declared.Command.TheVariants.{RequestRead, RequestUpdate, Perform, SendRead, SendUpdate, Dispatch, TakeBroadcast, TakeSingle, Deliver, Report}
+use Rattle.commands.proofs.DecodeLaw.{command_shown, decoded_shown, InRange, DecodedInRange, decode_is, decode_range}
 use Rattle.tables.specs.Doings.{doing_at}
 use Rattle.tables.specs.Shows.{status_of, plain}
 use Rattle.tables.specs.declared.Doing.{Doing}
@@ -42,20 +42,22 @@ use Rattle.tables.specs.declared.Doing.TheVariants.{Quiet, AskingRead, AskingUpd
 use Rattle.store.specs.SideBySide.{Stands, advanced}
 use Rattle.store.proofs.SideBySide.{channel_fit, advance_follows}
 use Rattle.logs.specs.declared.Entry.{Entry}
-use Rattle.logs.specs.declared.Entry.TheVariants.{Nothing}
-use Rattle.logs.specs.Entries.{entries, update_entry, doing_entry, body_entry, received_entry, command_entry, step_entry}
+use Rattle.std.specs.Prelude.{Option, None, Result, Ok, Err}
+use Rattle.names.specs.declared.refusals.Refusal.{Refusal}
+use Rattle.names.specs.Refusals.{refusal_number}
+use Rattle.logs.specs.Entries.{entries, update_entry, doing_entry, body_entry, received_entry, command_entry, decoded_entry, step_entry}
 use Rattle.logs.proofs.LedgerLog.{log_of, act_entry, grows, nothing_more}
 
 module _ (P : Placement) (x : ℕ) where
   -- ---- of a task and of an inbox, as the algorithm has them
 
-  found_entry : ℕ → F.Doing → Entry
-  found_entry t quiet = Nothing
-  found_entry t (asking_read y) = Nothing
+  found_entry : ℕ → F.Doing → Option Entry
+  found_entry t quiet = None
+  found_entry t (asking_read y) = None
   found_entry t (asking_update y f w) = update_entry P x (home P t) t y f w
-  found_entry t waiting = Nothing
-  found_entry t (done_read v) = Nothing
-  found_entry t (done_update v) = Nothing
+  found_entry t waiting = None
+  found_entry t (done_read v) = None
+  found_entry t (done_update v) = None
 
   doing_found : (t : ℕ) (d : Doing) → doing_entry P x t d ≡ found_entry t (status_of d)
   unfolding doing_entry found_entry status_of
@@ -66,8 +68,8 @@ module _ (P : Placement) (x : ℕ) where
   doing_found t (DoneRead v) = refl
   doing_found t (DoneUpdate v) = refl
 
-  inbox_entry : ℕ → List F.Letter → Entry
-  inbox_entry i [] = Nothing
+  inbox_entry : ℕ → List F.Letter → Option Entry
+  inbox_entry i [] = None
   inbox_entry i (m ∷ l) = body_entry P x i m.task m.reg m.body
 
   received_inbox : (i : ℕ) (l : List Letter) → received_entry P x i (handed_up l) ≡ inbox_entry i (map plain l)
@@ -83,7 +85,7 @@ module _ (P : Placement) (x : ℕ) where
     performs t k e = go (op_at b.ops k) (op_at b.ops k).upd e
       where
         go : (o : Op) (u : Bool) → o.task ≡ t
-            → found_entry t (cond u (asking_update o.reg o.fn o.arg) (asking_read o.reg)) ≡ cond u (update_entry P x (home P o.task) o.task o.reg o.fn o.arg) Nothing
+            → found_entry t (cond u (asking_update o.reg o.fn o.arg) (asking_read o.reg)) ≡ cond u (update_entry P x (home P o.task) o.task o.reg o.fn o.arg) None
         go o true q = ap (λ c. update_entry P x (home P c) c o.reg o.fn o.arg) (sym q)
         go o false q = refl
 
@@ -91,33 +93,33 @@ module _ (P : Placement) (x : ℕ) where
     unfolding inbox_entry body_entry
     delivers i (ask k) r = go (op_at b.ops k) (op_at b.ops k).upd
       where
-        go : (o : Op) (u : Bool) → body_entry P x i o.task o.reg (cond u (UpdateDo o.fn o.arg) ReadDo) ≡ cond u (update_entry P x i o.task o.reg o.fn o.arg) Nothing
+        go : (o : Op) (u : Bool) → body_entry P x i o.task o.reg (cond u (UpdateDo o.fn o.arg) ReadDo) ≡ cond u (update_entry P x i o.task o.reg o.fn o.arg) None
         go o true = refl
         go o false = refl
     delivers i (reply k v) r = go (op_at b.ops k) (op_at b.ops k).upd
       where
-        go : (o : Op) (u : Bool) → body_entry P x i o.task o.reg (cond u (UpdateReply v) (ReadReply v)) ≡ Nothing
+        go : (o : Op) (u : Bool) → body_entry P x i o.task o.reg (cond u (UpdateReply v) (ReadReply v)) ≡ None
         go o true = refl
         go o false = refl
 
     -- a planned action, from what it is made of
-    abbrev Adds : Entry → Action numbers → Type 0
+    abbrev Adds : Option Entry → Action numbers → Type 0
     Adds e g = Enabled P b g → act_entry P x b g ≡ e
 
-    is_planned : (e : Entry) (a g : Action numbers) → some a ≡ some g → Adds e a → Adds e g
+    is_planned : (e : Option Entry) (a g : Action numbers) → some a ≡ some g → Adds e a → Adds e g
     is_planned e a g p h = subst (Adds e) (some-injective a g p) h
 
-    about_planned : (e : Entry) (s : Status numbers) (h : ℕ → Action numbers) (g : Action numbers) → about s h ≡ some g → ((k : ℕ) → Adds e (h k)) → Adds e g
+    about_planned : (e : Option Entry) (s : Status numbers) (h : ℕ → Action numbers) (g : Action numbers) → about s h ≡ some g → ((k : ℕ) → Adds e (h k)) → Adds e g
     about_planned e R.quiet h g p q = absurd (none-ne-some g p)
     about_planned e (R.asking k) h g p q = is_planned e (h k) g p (q k)
     about_planned e (R.waiting k) h g p q = is_planned e (h k) g p (q k)
     about_planned e (R.done k v) h g p q = is_planned e (h k) g p (q k)
 
-    head_planned : (e : Entry) (l : List (Msg numbers)) (h : Msg numbers → Action numbers) (g : Action numbers) → headed l h ≡ some g → ((m : Msg numbers) → Adds e (h m)) → Adds e g
+    head_planned : (e : Option Entry) (l : List (Msg numbers)) (h : Msg numbers → Action numbers) (g : Action numbers) → headed l h ≡ some g → ((m : Msg numbers) → Adds e (h m)) → Adds e g
     head_planned e [] h g p q = absurd (none-ne-some g p)
     head_planned e (m ∷ l) h g p q = is_planned e (h m) g p (q m)
 
-    told_planned : (e : Entry) (s : Status numbers) (h : ℕ → ℕ → Action numbers) (g : Action numbers) → telling s h ≡ some g → ((k v : ℕ) → Adds e (h k v)) → Adds e g
+    told_planned : (e : Option Entry) (s : Status numbers) (h : ℕ → ℕ → Action numbers) (g : Action numbers) → telling s h ≡ some g → ((k v : ℕ) → Adds e (h k v)) → Adds e g
     told_planned e R.quiet h g p q = absurd (none-ne-some g p)
     told_planned e (R.asking k) h g p q = absurd (none-ne-some g p)
     told_planned e (R.waiting k) h g p q = absurd (none-ne-some g p)
@@ -146,33 +148,33 @@ module _ (P : Placement) (ok : placement_refusal P ≡ 0) (x : ℕ) (ds : List (
         ∙ ledger_taken P b c
 
     -- a step that is a command, and adds e where it is taken
-    by_command : (c : Command) (e : Entry) → decode P a ≡ good c → ((g : Action numbers) → plan P b c ≡ some g → Adds P x b e g)
-        → log_of P x (ledger P (notes P ds (good c))) ≡ log_of P x b ++ entries (cond is_done e Nothing)
+    by_command : (c : Command) (e : Option Entry) → decode P a ≡ good c → ((g : Action numbers) → plan P b c ≡ some g → Adds P x b e g)
+        → log_of P x (ledger P (notes P ds (good c))) ≡ log_of P x b ++ entries (cond is_done e None)
     by_command c e q h = go (ℕ_discrete (ledger_refusal P b c) 0)
       where
-        go : Dec (ledger_refusal P b c ≡ 0) → log_of P x (ledger P (notes P ds (good c))) ≡ log_of P x b ++ entries (cond is_done e Nothing)
+        go : Dec (ledger_refusal P b c ≡ 0) → log_of P x (ledger P (notes P ds (good c))) ≡ log_of P x b ++ entries (cond is_done e None)
         go (yes r) =
             let t = taken P ok ds f c r in
             ap (λ l. log_of P x (ledger P l)) (notes_taken P ok ds f c r)
             ∙ grows P x ok ds f t.0
-            ∙ ap (λ n. log_of P x b ++ entries n) (h t.0 t.1 t.2 ∙ sym (ap (λ d. cond d e Nothing) (done_is c q ∙ eqb_of r)))
+            ∙ ap (λ n. log_of P x b ++ entries n) (h t.0 t.1 t.2 ∙ sym (ap (λ d. cond d e None) (done_is c q ∙ eqb_of r)))
         go (no n) =
             ap (λ l. log_of P x (ledger P l)) (notes_refused P ok ds c n)
             ∙ nothing_more (log_of P x b)
-            ∙ ap (λ n. log_of P x b ++ entries n) (sym (ap (λ d. cond d e Nothing) (done_is c q ∙ eqb_not n)))
+            ∙ ap (λ n. log_of P x b ++ entries n) (sym (ap (λ d. cond d e None) (done_is c q ∙ eqb_not n)))
 
-    refused_adds : (n : ℕ) → log_of P x (ledger P (notes P ds (bad n))) ≡ log_of P x b ++ entries (cond is_done Nothing Nothing)
+    refused_adds : (n : ℕ) → log_of P x (ledger P (notes P ds (bad n))) ≡ log_of P x b ++ entries (cond is_done None None)
     refused_adds n = nothing_more (log_of P x b) ∙ ap (λ e. log_of P x b ++ entries e) (go is_done)
       where
-        go : (t : Bool) → Nothing ≡ cond t Nothing Nothing
+        go : (t : Bool) → ◌≡◌ {A = Option Entry} None (cond t None None)
         go true = refl
         go false = refl
 
-    by_step : (d : D.Command) → InRange (cards_of cs) (registers_of cs) (tasks_of cs) d → decode P a ≡ command_shown d
-        → log_of P x (ledger P (notes P ds (command_shown d))) ≡ log_of P x b ++ entries (cond is_done (command_entry P x rs cs d) Nothing)
+    by_step : (d : D.Command) → InRange (cards_of cs) (registers_of cs) (tasks_of cs) d → decode P a ≡ good (command_shown d)
+        → log_of P x (ledger P (notes P ds (good (command_shown d)))) ≡ log_of P x b ++ entries (cond is_done (command_entry P x rs cs d) None)
     unfolding command_entry
-    by_step (RequestRead t v) r e = by_command (K.request_read t.0 v.0) Nothing e (λ g p. is_planned P x b Nothing _ g p (λ n. refl))
-    by_step (RequestUpdate t v j w) r e = by_command (K.request_update t.0 v.0 j w) Nothing e (λ g p. is_planned P x b Nothing _ g p (λ n. refl))
+    by_step (RequestRead t v) r e = by_command (K.request_read t.0 v.0) None e (λ g p. is_planned P x b None _ g p (λ n. refl))
+    by_step (RequestUpdate t v j w) r e = by_command (K.request_update t.0 v.0 j w) None e (λ g p. is_planned P x b None _ g p (λ n. refl))
     by_step (Perform t) r e = by_command (K.perform t.0) (doing_entry P x t.0 (doing_at rs t.0)) e (λ g p.
         about_planned P x b _ (b.layer.status t.0) (Action.perform t.0) g p (λ k n.
         sym
@@ -180,11 +182,11 @@ module _ (P : Placement) (ok : placement_refusal P ≡ 0) (x : ℕ) (ds : List (
         ∙ ap (found_entry P x t.0) (sym (z.shows.registers_show.status= t.0 r))
         ∙ ap (λ u. found_entry P x t.0 (show_status b.ops u)) n.0
         ∙ performs P x b t.0 k (own t.0 k n.0))))
-    by_step (SendRead t j) r e = by_command (K.send_read t.0 j.0) Nothing e (λ g p. about_planned P x b Nothing (b.layer.status t.0) _ g p (λ k n. refl))
-    by_step (SendUpdate t) r e = by_command (K.send_update t.0) Nothing e (λ g p. about_planned P x b Nothing (b.layer.status t.0) _ g p (λ k n. refl))
-    by_step (Dispatch i) r e = by_command (K.dispatch i.0) Nothing e (λ g p. head_planned P x b Nothing (b.layer.out i.0) _ g p (λ m n. refl))
-    by_step (TakeBroadcast i) r e = by_command (K.take_broadcast i.0) Nothing e (λ g p. is_planned P x b Nothing _ g p (λ n. refl))
-    by_step (TakeSingle t) r e = by_command (K.take_single t.0) Nothing e (λ g p. is_planned P x b Nothing _ g p (λ n. refl))
+    by_step (SendRead t j) r e = by_command (K.send_read t.0 j.0) None e (λ g p. about_planned P x b None (b.layer.status t.0) _ g p (λ k n. refl))
+    by_step (SendUpdate t) r e = by_command (K.send_update t.0) None e (λ g p. about_planned P x b None (b.layer.status t.0) _ g p (λ k n. refl))
+    by_step (Dispatch i) r e = by_command (K.dispatch i.0) None e (λ g p. head_planned P x b None (b.layer.out i.0) _ g p (λ m n. refl))
+    by_step (TakeBroadcast i) r e = by_command (K.take_broadcast i.0) None e (λ g p. is_planned P x b None _ g p (λ n. refl))
+    by_step (TakeSingle t) r e = by_command (K.take_single t.0) None e (λ g p. is_planned P x b None _ g p (λ n. refl))
     by_step (Deliver i) r e = by_command (K.deliver i.0) (received_entry P x i.0 (receive_answer cs i)) e (λ g p.
         head_planned P x b _ (b.channel.inbox i.0) (λ m. Action.deliver m i.0) g p (λ m n.
         let w = z.shows.channel_shows in
@@ -194,15 +196,19 @@ module _ (P : Placement) (ok : placement_refusal P ≡ 0) (x : ℕ) (ds : List (
         ∙ ap (λ c. inbox_entry P x i.0 (c.inbox i.0)) (sym w.plain=)
         ∙ ap (λ l. inbox_entry P x i.0 (map (show_msg P b.ops b.chosen) l)) n.1
         ∙ delivers P x b i.0 m n.0)))
-    by_step (Report t) r e = by_command (K.report t.0) Nothing e (λ g p. told_planned P x b Nothing (b.layer.status t.0) _ g p (λ k v n. refl))
-    by_step (Refused n) r e = refused_adds n
+    by_step (Report t) r e = by_command (K.report t.0) None e (λ g p. told_planned P x b None (b.layer.status t.0) _ g p (λ k v n. refl))
+
+    decoded_adds : (d : Result D.Command Refusal) → DecodedInRange (cards_of cs) (registers_of cs) (tasks_of cs) d → decode P a ≡ decoded_shown d
+        → log_of P x (ledger P (notes P ds (decoded_shown d))) ≡ log_of P x b ++ entries (cond is_done (decoded_entry P x rs cs d) None)
+    decoded_adds (Ok c) r e = by_step c r e
+    decoded_adds (Err f) r e = refused_adds (refusal_number f)
 
     pub step_adds : log_of P x (ledger P (notes P ds (decode P a))) ≡ log_of P x b ++ entries (step_entry P x rs cs a.code a.argument)
     unfolding step_entry
-    step_adds = ap (λ q. log_of P x (ledger P (notes P ds q))) (sym same) ∙ by_step d (decode_range (cards_of cs) (registers_of cs) (tasks_of cs) a.code a.argument) (sym same)
+    step_adds = ap (λ q. log_of P x (ledger P (notes P ds q))) (sym same) ∙ decoded_adds d (decode_range (cards_of cs) (registers_of cs) (tasks_of cs) a.code a.argument) (sym same)
       where
-        d : D.Command
+        d : Result D.Command Refusal
         d = decode_of a.code a.argument (cards_of cs) (registers_of cs) (tasks_of cs)
 
-        same : command_shown d ≡ decode P a
+        same : decoded_shown d ≡ decode P a
         same = rw (← z.shows.cards=, ← z.shows.registers=, ← z.shows.tasks=) (decode_is P a.argument a.code)

@@ -2,7 +2,7 @@
 use Rattle.std.specs.Prelude.{ℕ, cond, List, eqb, length}
 use Rattle.std.proofs.lemmas.List.Edits.{sets}
 use Rattle.runfile.specs.RunFile.{file_refusal, placement_in, run_file_in}
-use Rattle.logs.specs.declared.Logged.{Logged}
+use Rattle.logs.specs.Logged.{Logged}
 use Rattle.logs.specs.Log.{log_cards, log_operands}
 
 unfoldable pub file_cards : List ℕ → ℕ → List ℕ

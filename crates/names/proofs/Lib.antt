@@ -6,6 +6,7 @@ pub mod LettersMeaning
 pub mod Picks
 pub mod PlacementLaws
 pub mod Raised
+pub mod RefusalsMeaning
 pub mod Results
 pub mod Rings
 pub mod UpdateMeaning

@@ -4,6 +4,8 @@ pub mod Update
 pub mod UpdateMeaning
 pub mod Placement
 pub mod Step
+pub mod Refusals
+pub mod RefusalsMeaning
 pub mod Results
 pub mod ResultsMeaning
 pub mod Letters

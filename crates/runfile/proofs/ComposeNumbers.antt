@@ -17,7 +17,7 @@ use Rattle.runfile.specs.Compose.{Tables, composed, composed_length, tables_size
 use Rattle.runfile.specs.ComposeMeaning.{SizedTables, ComposeNumbers, ComposeTouches}
 use Rattle.runfile.proofs.TableBytes.{placement_length, bytes_length, steps_behind}
 use Rattle.runfile.proofs.HeadLaws.{is_zero, in_range_lem, head_length, fits, has_room}
-use Rattle.runfile.proofs.HeadLaws.{said_written as head_written}
+use Rattle.runfile.proofs.HeadLaws.{output_written as head_written}
 
 -- ---- the number, by three tests (0: HeadLaws)
 
@@ -90,10 +90,6 @@ module _ (t : Tables) where
     unfolding head_refusal compose_refusal composed_length
     head_refusal_lem e = rw (e, head_is_sized e)
 
-    pub said_unsized : tables_sized t ≡ false → (record { refusal = 3; length = 0 } ≡ composed_of t out) × (out ≡ compose_output t out)
-    unfolding compose_refusal composed_of compose_output
-    said_unsized e = (rw e, rw e)
-
     pub said_refused : tables_sized t ≡ true → (head_of t.placement n out).refusal ≢ 0 → (head_of t.placement n out ≡ composed_of t out) × (head_output t.placement n out ≡ compose_output t out)
     unfolding head_of head_output composed_of compose_output
     said_refused e h = let z = ne_eqb (compose_refusal t out) 0 (λ k. h (head_refusal_lem e ∙ k)) in (rw (head_refusal_lem e, z), rw (head_refusal_lem e, z))
@@ -108,7 +104,7 @@ module _ (t : Tables) where
         let p = placement_length t.placement.homes t.placement.copies t.placement.primaries in
         let z : 0 + length (composed t) ≡ length (composed t) = omega arith in
         let w = sym (head_refusal_lem e) ∙ k in
-        let o = sym (head_written t.placement n out (whole_length t.placement n) k refl).1 in (
+        let o = sym (head_written t.placement n out k) in (
           rw (head_refusal_lem e, w),
           rw w
               (ap (λ o. sets o i (t.codes ++ t.arguments)) o

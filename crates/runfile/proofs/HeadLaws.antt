@@ -1,20 +1,20 @@
 -- The head of a run file: what its bytes need, and what a call says and leaves.
 use Prim.Native.Nat.{ℕ, ◌+◌, ◌*◌, ◌≤◌, ◌<◌}
-use mathlib.Core.Path.{◌≡◌, refl, sym, ap, ap₂, ◌∙◌}
-use mathlib.Core.Logic.{◌↔◌, ◌≢◌}
+use mathlib.Core.Path.{◌≡◌, refl, sym, ap, ◌∙◌}
+use mathlib.Core.Logic.{◌↔◌}
 use mathlib.Core.Bool.{Bool, true, false, cond}
 use mathlib.Core.List.{List, ◌++◌}
 use native.Mathlib.Omega.{arith}
 use lib.Dec.{leb}
 use lib.ListN.{length, drop, length-append}
 use lib.Seq.{sets, sets-eq}
-use borrow.Author.Tests.{leb-true, le-leb, ne_eqb}
+use borrow.Author.Tests.{leb-true, le-leb}
 use Rattle.lists.specs.Parts.{sets_append}
 use Rattle.lists.specs.Tests.{and_fst, and_snd, and_intro, clash}
 use Rattle.names.specs.Placement.{Placement, tasks, registers, sized, placed}
 use Rattle.names.proofs.PlacementLaws.{Sized, sized_is}
 use Rattle.runfile.specs.RunFile.{size_bytes, placement_bytes}
-use Rattle.runfile.specs.Head.{placed_number, head_bytes, whole_length, head_sized, head_refusal, head_output, head_of}
+use Rattle.runfile.specs.Head.{placed_number, head_bytes, whole_length, head_sized, head_refusal, head_output}
 use Rattle.runfile.proofs.TableBytes.{placement_length, size_length}
 
 pub is_zero : (a b c : Bool) → (cond a (placed_number b c) 3 ≡ 0) ↔ ((a ≡ true) × (b ≡ true) × (c ≡ true))
@@ -57,23 +57,23 @@ module _ (P : Placement) (n : ℕ) where
       (omega (arith, h.0.0.1), omega (arith, h.0.0.3), omega (arith, h.0.0.5), omega (arith, h.0.1))
 
   module _ (out : List ℕ) where
-    pub number_is : (b : Bool) (l m : ℕ) → head_sized P n ≡ true → b ≡ placed P → l ≡ whole_length P n → m ≡ placed_number b (leb l (length out)) → head_refusal P n out ≡ m
-    unfolding head_refusal
-    number_is b l m s p e q = rw s (sym (q ∙ ap₂ (λ a k. placed_number a (leb k (length out))) p e))
-
     pub has_room : head_refusal P n out ≡ 0 → (head_sized P n ≡ true) × (whole_length P n ≤ length out)
     unfolding head_refusal
     has_room e = let z = (is_zero (head_sized P n) (placed P) (leb (whole_length P n) (length out))).0 e in (z.0, leb-true (whole_length P n) (length out) z.2)
 
-    pub said_refused : (m : ℕ) → head_refusal P n out ≡ m → m ≢ 0 → (record { refusal = m; length = 0 } ≡ head_of P n out) × (out ≡ head_output P n out)
-    unfolding head_of head_output
-    said_refused m e h = let z = ne_eqb m 0 h in (rw (e, z), rw (e, z))
-
-    pub said_written : (l : ℕ) → head_refusal P n out ≡ 0 → l ≡ whole_length P n → (record { refusal = 0; length = l } ≡ head_of P n out) × (sets out 0 (head_bytes P n) ≡ head_output P n out)
-    unfolding head_of head_output
-    said_written l e q =
+    pub output_written : head_refusal P n out ≡ 0 → sets out 0 (head_bytes P n) ≡ head_output P n out
+    unfolding head_output
+    output_written e =
         let r = has_room e in
         let f = (fits (length out) r.0 r.1).3 in
         let b = head_length in
         let z : 0 + length (head_bytes P n) ≡ length (head_bytes P n) = omega arith in
-        (rw (e, q), rw e (sets-eq (head_bytes P n) out 0 (omega arith) ∙ ap (λ k. head_bytes P n ++ drop k out) z))
+        rw e (sets-eq (head_bytes P n) out 0 (omega arith) ∙ ap (λ k. head_bytes P n ++ drop k out) z)
+
+-- the same of a placement as the code has it, its tables apart
+module _ {P Q : Placement} (n : ℕ) (seen : P ≡ Q) (sized : head_sized Q n ≡ true) where
+  pub few : (tasks P ≤ 16) × (registers P ≤ 32) × (length P.primaries ≡ registers P) × (n ≤ 4096)
+  few = rw seen (let h = (in_range_lem Q n).0 sized in (h.0.0.5, h.0.0.3, h.0.1, h.1))
+
+  pub fits_seen : (m : ℕ) → whole_length Q n ≤ m → (P.cards < 256) × (registers P < 256) × (tasks P < 256) × (n ≤ 4096) × (5 ≤ m)
+  fits_seen m l = rw seen (let f = fits Q n m sized l in (f.0, f.1, f.2, ((in_range_lem Q n).0 sized).1, omega (arith, f.3)))

@@ -8,7 +8,7 @@ use native.Mathlib.Omega.{arith}
 use borrow.Author.Tests.{ne_eqb, eqb-true, le-ltb}
 use lib.Dec.{eqb, ltb}
 use lib.ListN.{length, set, drop}
-use Rattle.runfile.specs.declared.Answered.{Answered}
+use Rattle.runfile.specs.Run.{Answered}
 use Rattle.runfile.specs.RunFile.{steps_in, file_refusal}
 use Rattle.runfile.specs.Run.{answers_in, answer_of, answer_refusal, answer_output, taken_of, refused_of, answered_of}
 use Rattle.runfile.proofs.RunFileLaws.{accepted_most}

@@ -14,7 +14,7 @@ use Rattle.lists.specs.Listings.{listing_length}
 use Rattle.names.specs.Placement.{tasks, registers, sizes_in_range, placed, placement_refusal}
 use Rattle.names.proofs.PlacementLaws.{InRange, Lies, Sized, in_range_lem, placed_is, placement_verdict}
 use Rattle.names.proofs.PlacementLaws.PlacementVerdict.{accepted as accepted_one}
-use Rattle.runfile.specs.RunFile.{cards_in, registers_in, tasks_in, steps_in, copies_at, primaries_at, file_length, placement_in, step_in, run_file_in, sizes_sound, file_refusal}
+use Rattle.runfile.specs.RunFile.{cards_in, registers_in, tasks_in, steps_in, copies_at, primaries_at, codes_at, file_length, placement_in, step_in, run_file_in, sizes_sound, file_refusal}
 
 -- ---- the tests of a file
 
@@ -144,6 +144,11 @@ module _ (s : List ℕ) (ok : file_refusal s ≡ 0) where
 
   pub accepted_length : length s ≡ file_length s
   accepted_length = facts.1
+
+  -- so it has its whole placement
+  pub accepted_tables : codes_at s ≤ length s
+  unfolding codes_at primaries_at copies_at file_length
+  accepted_tables = let e = facts.1 in omega arith
 
   pub accepted_sizes : SizesInRange s
   accepted_sizes = facts.0

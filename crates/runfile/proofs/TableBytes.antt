@@ -1,10 +1,12 @@
 -- The bytes of a run file in terms of its tables.
-use Prim.Native.Nat.{ℕ, ◌+◌, ◌*◌}
+use Prim.Native.Nat.{ℕ, ◌+◌, ◌*◌, ◌≤◌}
 use mathlib.Core.Path.{◌≡◌, sym, ap, ap₂, ◌∙◌}
 use mathlib.Core.List.{List, ◌++◌, map, append_assoc}
 use native.Mathlib.Omega.{arith}
-use lib.ListN.{length, get_or, length-append}
-use lib.Seq.{sets}
+use lib.ListN.{length, get_or, take, drop, length-append}
+use lib.Seq.{sets, sets-eq}
+use Rattle.std.proofs.Common.{drop-drop}
+use borrow.Rule.Slice.PartMut.{put_mid}
 use Rattle.lists.specs.Parts.{sets_append}
 use Rattle.lists.specs.Listings.{listing, listing_all, listing_length, map_listing}
 use Rattle.names.specs.Placement.{tasks, registers}
@@ -20,6 +22,14 @@ placement_length homes copies primaries = simp length-append (omega arith)
 pub size_length : (cards registers tasks n : ℕ) → length (size_bytes cards registers tasks n) ≡ 5
 unfolding size_bytes
 size_length cards registers tasks n = omega arith
+
+-- a table copied over a part of an output
+pub copied : (out table : List ℕ) (at n : ℕ) → n ≡ length table → at + n ≤ length out → put_mid at n out table ≡ sets out at table
+copied out table at n e h =
+    ap (λ k. take at out ++ (table ++ drop k (drop at out))) e
+    ∙ ap (λ r. take at out ++ (table ++ r)) (drop-drop (length table) at out)
+    ∙ sym (append_assoc (take at out) table (drop (at + length table) out))
+    ∙ sym (sets-eq table out at (omega arith))
 
 pub three_in_turn : (out a b c : List ℕ) (i j k : ℕ) → j ≡ i + length a → k ≡ j + length b → sets (sets (sets out i a) j b) k c ≡ sets out i (a ++ b ++ c)
 three_in_turn out a b c i j k e f =

@@ -4,15 +4,17 @@ use Rattle.lists.specs.Parts.{part}
 use Rattle.lists.specs.Listings.{listing}
 use Rattle.names.specs.Placement.{Placement, placement, placed}
 use Rattle.names.specs.Step.{RawStep}
-use Rattle.runfile.specs.declared.Composed.{Composed}
 use Rattle.runfile.specs.RunFile.{steps_in, codes_at, arguments_at, placement_in, RunFile, file_bytes}
-use Rattle.runfile.specs.Head.{placed_number, whole_length, head_sized}
+use Rattle.runfile.specs.Head.{Composed, placed_number, whole_length, head_sized}
 
 -- what a set-up screen has: a placement, and two parallel tables over steps, codes and arguments, eight bytes a step
 pub record Tables : Type 0 where
   pub placement : Placement
   pub codes : List ℕ
   pub arguments : List ℕ
+
+abbrev pub with_steps : Placement → List ℕ → List ℕ → Tables
+with_steps p codes arguments = record { placement = p; codes = codes; arguments = arguments }
 
 abbrev pub tables : ℕ → List ℕ → List ℕ → List ℕ → List ℕ → List ℕ → Tables
 tables cards homes copies primaries codes arguments = record { placement = placement cards homes copies primaries; codes = codes; arguments = arguments }

@@ -1,9 +1,19 @@
 -- The head of a run file: its sizes and its placement, with which a file of n steps begins (RULES 3.1); when a file of so many steps is refused
 -- (15.3, 17.5), and what a lent output then has in it.
-use Rattle.std.specs.Prelude.{ℕ, ◌+◌, ◌*◌, Bool, cond, ◌&&◌, List, ◌++◌, eqb, leb, length, drop}
+use Rattle.std.specs.Prelude.{ℕ, ◌+◌, ◌*◌, Bool, cond, ◌&&◌, List, ◌++◌, eqb, leb, length, drop, Result, Ok, Err}
+use Rattle.names.specs.declared.refusals.Refusal.{Refusal}
+use Rattle.names.specs.Refusals.{refusal_number}
 use Rattle.names.specs.Placement.{Placement, tasks, registers, sized, placed}
-use Rattle.runfile.specs.declared.Composed.{Composed}
 use Rattle.runfile.specs.RunFile.{size_bytes, placement_bytes}
+
+-- what is said of tables: 0 and the length of their run file, or the refusal and 0
+pub record Composed : Type 0 where
+  pub refusal : ℕ
+  pub length : ℕ
+
+abbrev pub told : Result ℕ Refusal → Composed
+told (Ok n) = record { refusal = 0; length = n }
+told (Err r) = record { refusal = refusal_number r; length = 0 }
 
 -- of sizes in range: 4 as for the reader, then 5 for an output shorter than the file
 abbrev pub placed_number : Bool → Bool → ℕ

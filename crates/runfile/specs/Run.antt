@@ -1,12 +1,14 @@
 -- A whole run: from the bytes of a run file (RULES 3) to those of its answer file (4).
-use Rattle.std.specs.Prelude.{ℕ, ◌+◌, ◌*◌, Bool, cond, not, List, [], ◌∷◌, eqb, ltb, length}
+use Rattle.std.specs.Prelude.{ℕ, ◌+◌, ◌*◌, Bool, cond, not, List, [], ◌∷◌, eqb, ltb, length, Result, Ok, Err}
 use Rattle.lists.specs.Filters.{filter}
 use Rattle.names.specs.declared.Answer.{Answer}
+use Rattle.names.specs.declared.refusals.Refusal.{Refusal}
+use Rattle.names.specs.Refusals.{refusal_number}
+use Rattle.tally.specs.declared.Tally.{Tally}
 use Rattle.names.specs.Results.{is_taken}
 use Rattle.claims.specs.Found.{begin}
 use Rattle.claims.specs.FoundRun.{answers_from}
 use Rattle.tables.specs.Start.{start_registers, start_channel}
-use Rattle.runfile.specs.declared.Answered.{Answered}
 use Rattle.runfile.specs.RunFile.{steps_in, placement_in, run_file_in, file_refusal}
 use Rattle.runfile.specs.AnswerFile.{answer_bytes, answered}
 
@@ -44,7 +46,17 @@ taken_of answers = length (filter (λ a. is_taken a.result) answers)
 abbrev pub refused_of : List Answer → ℕ
 refused_of answers = length (filter (λ a. is_refused a.result) answers)
 
--- what is said of a whole run: 0 and the counts of its steps, or the refusal and no steps (RULES 9.4)
+-- what is said of a whole run: 0 and how many steps were taken and refused, or the refusal of the file or of the output, and no steps
+pub record Answered : Type 0 where
+  pub refusal : ℕ
+  pub taken : ℕ
+  pub refused : ℕ
+
+abbrev pub run_told : Result Tally Refusal → Answered
+run_told (Ok tally) = record { refusal = 0; taken = tally.taken; refused = tally.refused }
+run_told (Err r) = record { refusal = refusal_number r; taken = 0; refused = 0 }
+
+-- 0 and the counts of its steps, or the refusal and no steps (RULES 9.4)
 unfoldable pub answered_of : List ℕ → List ℕ → Answered
 answered_of file out =
     cond (eqb (answer_refusal file out) 0)

@@ -1,12 +1,12 @@
 -- The run file: where each part of it lies (RULES 3.1, 3.2), what it holds, and when it is refused (8.2, 8.3).
-use Rattle.std.specs.Prelude.{ℕ, ◌+◌, ◌*◌, ◌%◌, ◌/◌, Bool, cond, ◌&&◌, List, [], ◌∷◌, ◌++◌, map, eqb, ltb, leb, length, get_or}
+use Rattle.std.specs.Prelude.{ℕ, ◌+◌, ◌*◌, ◌%◌, ◌/◌, Bool, cond, ◌&&◌, List, [], ◌∷◌, ◌++◌, map, eqb, ltb, leb, length, get_or, Result, Ok, Err}
 use Rattle.lists.specs.Parts.{part}
 use Rattle.lists.specs.Listings.{listing}
 use Rattle.names.specs.Placement.{Placement, placement, tasks, registers, sizes_in_range, placed}
 use Rattle.names.specs.Step.{RawStep}
+use Rattle.names.specs.declared.refusals.Refusal.{Refusal}
+use Rattle.names.specs.Refusals.{refusal_number}
 use Rattle.runfile.specs.declared.Sizes.{Sizes}
-use Rattle.runfile.specs.declared.Judgement.{Judgement}
-use Rattle.runfile.specs.declared.Judgement.TheVariants.{Accepted, Refused}
 
 -- ---- what a file holds
 
@@ -85,6 +85,14 @@ file_refusal s =
     3)
 
 -- what the reader says of a file: its sizes, or its number
+pub data Judgement : Type 0 where
+  Accepted : Sizes → Judgement
+  Refused : ℕ → Judgement
+
+abbrev pub judged : Result Sizes Refusal → Judgement
+judged (Ok sizes) = Accepted sizes
+judged (Err refusal) = Refused (refusal_number refusal)
+
 unfoldable pub judgement_of : List ℕ → Judgement
 judgement_of s = cond (eqb (file_refusal s) 0) (Accepted (sizes_in s)) (Refused (file_refusal s))
 

@@ -5,9 +5,8 @@ use Rattle.names.specs.Step.{RawStep}
 use Rattle.names.specs.declared.Answer.{Answer}
 use Rattle.store.specs.SideBySide.{advanced, advance}
 use Rattle.store.specs.Run.{Store}
-use Rattle.runfile.specs.declared.Answered.{Answered}
 use Rattle.names.specs.Results.{is_taken}
-use Rattle.runfile.specs.Run.{is_refused}
+use Rattle.runfile.specs.Run.{Answered, is_refused}
 
 abbrev pub stored : List ℕ → List ℕ → Store
 stored rs cs = record { registers = rs; channel = cs }

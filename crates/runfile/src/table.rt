@@ -3,18 +3,16 @@ ghost use Rattle.std.specs.Prelude.{◌≡◌, ◌+◌, ◌≤◌, ◌++◌, len
 ghost use Rattle.std.proofs.lemmas.List.Edits.{sets};
 
 // The bytes from a place on; answers the place behind them.
+// Kept: at a place, as `sets` has one, in which all that is written is said; and byte by byte. By `copy_from_slice` the library needs C's `memmove`, and the header asks for `memcpy` and `memset` alone.
 pub(crate) fn put_table(out: &mut [u8], at: usize, table: &[u8]) -> usize
     requires { at + length table.now ≤ length out.old }
     ensures place { result ≡ at + length table.now }
     ensures output { out.new ≡ sets out.old at table.now }
 {
-    let n = table.len();
-    let mut k: usize = 0;
-    while k < n {
+    for k in 0..table.len() {
         out[at + k] = table[k];
-        k += 1;
     }
-    at + n
+    at + table.len()
 }
 
 // Three of them, one after the other.

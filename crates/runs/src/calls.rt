@@ -1,138 +1,125 @@
 // K13: request 65,535 passes, the next gives 23. Only calls beyond one file reach it.
-use console::{tell, tell_one};
-use names::{Card, Register};
-use std::io::Stdout;
+//
+// Kept: both memories stand apart and are handed to the store's functions by name, in no struct and to no closure: the channel's memory is only
+// handed on, under the name `channel` (`.ci/layers`).
+ghost use Rattle.std.specs.Prelude.{◌≤◌, length};
 
-fn add(x: u32, y: u32) -> u32 {
-    std::num::wrapping_add_u32(x, y)
+use names::placement::Placement;
+use names::{Answer, Card, Register};
+use std::io;
+use std::io::Write;
+
+// A step as it is given.
+#[derive(Clone, Copy)]
+struct Step {
+    code: u8,
+    argument: [u8; 8],
 }
 
-// 1 for a step that is taken.
-fn one(res: u8) -> u32 {
-    if names::is_taken(res) {
-        return 1;
+impl Step {
+    // The argument has one byte, and zeros.
+    fn of(code: u8, first: u8) -> Step {
+        Step {
+            code,
+            argument: [first, 0, 0, 0, 0, 0, 0, 0],
+        }
     }
-    0
 }
 
-// A step whose argument has one byte and zeros: 1 where it is taken.
-fn checked(
+// By the call that checks the state again, or by the one that does not.
+fn call(
     registers: &mut [u32; 593],
     channel: &mut [u32; channel::WORDS],
-    code: u8,
-    first: u8,
-) -> u32 {
-    let answer = store::step(registers, channel, code, [first, 0, 0, 0, 0, 0, 0, 0]);
-    one(answer.result)
+    step: Step,
+    checks: bool,
+) -> Answer {
+    if checks {
+        store::step(registers, channel, step.code, step.argument)
+    } else {
+        store::advance(registers, channel, step.code, step.argument)
+    }
 }
 
-// The same by the call that does not check the state again.
-fn unchecked(
+// A round of steps, as often as there are requests: how many steps are taken.
+fn taken(
     registers: &mut [u32; 593],
     channel: &mut [u32; channel::WORDS],
-    code: u8,
-    first: u8,
-) -> u32 {
-    let answer = store::advance(registers, channel, code, [first, 0, 0, 0, 0, 0, 0, 0]);
-    one(answer.result)
-}
-
-// Task 0 reads register 0: request, perform, report.
-fn read_once(registers: &mut [u32; 593], channel: &mut [u32; channel::WORDS]) -> u32 {
-    let a = checked(registers, channel, 1, 0);
-    let b = checked(registers, channel, 3, 0);
-    let c = checked(registers, channel, 10, 0);
-    add(a, add(b, c))
-}
-
-// As often as there are requests.
-fn read_often(registers: &mut [u32; 593], channel: &mut [u32; channel::WORDS]) -> u32 {
-    let mut taken: u32 = 0;
-    let mut k: u32 = 0;
-    while k < 65535 {
-        taken = add(taken, read_once(registers, channel));
-        k += 1;
+    round: &[Step],
+    checks: bool,
+) -> u32
+    requires { length round.now ≤ 8 }
+{
+    let mut taken = 0u32;
+    for _round in 0..65535u32 {
+        for step in round {
+            if names::is_taken(call(registers, channel, *step, checks).result) {
+                taken += 1;
+            }
+        }
     }
     taken
 }
 
 // What a request gives now.
 fn one_more(
-    stdout: Stdout,
-    page: &mut [u8; 65536],
-    at: usize,
+    out: &mut impl Write,
     registers: &mut [u32; 593],
     channel: &mut [u32; channel::WORDS],
-) -> usize {
-    let answer = store::step(registers, channel, 1, [0; 8]);
-    let numbers = [store::requests(registers), answer.result as u32];
-    tell(
-        stdout,
-        page,
-        at,
-        b", requests #, one more gives #",
-        &numbers,
-    )
+) -> io::Result<()> {
+    let result = call(registers, channel, Step::of(1, 0), true).result;
+    let requests = store::requests(registers);
+    write!(out, ", requests {requests}, one more gives {result}")
 }
 
-// One card, one register, one task.
-pub(crate) fn reads(stdout: Stdout, page: &mut [u8; 65536], at: usize) -> usize {
+// One card, one register, one task, which reads it: request, perform, report.
+pub(crate) fn reads(out: &mut impl Write) -> io::Result<()> {
     let mut registers = [0u32; 593];
     let mut channel = [0u32; channel::WORDS];
-    store::start(&mut registers, &mut channel, 1, b"\x00", b"\x01", b"\x00");
-    let taken = read_often(&mut registers, &mut channel);
-    let text = b"k13    65535 rounds of 3 steps, taken #";
-    let a = tell_one(stdout, page, at, text, taken);
-    let b = one_more(stdout, page, a, &mut registers, &mut channel);
-    console::say(stdout, page, b, b"\n")
+    let placement = Placement {
+        cards: 1,
+        homes: b"\x00",
+        copies: b"\x01",
+        primaries: b"\x00",
+    };
+    let _ = store::start(&mut registers, &mut channel, &placement);
+    let round = [Step::of(1, 0), Step::of(3, 0), Step::of(10, 0)];
+    let taken = taken(&mut registers, &mut channel, &round, true);
+    write!(out, "k13    65535 rounds of 3 steps, taken {taken}")?;
+    one_more(out, &mut registers, &mut channel)?;
+    writeln!(out)
 }
 
-// Task 0 adds 1 to register 0: an update that both cards take and deliver.
-fn broadcast(registers: &mut [u32; 593], channel: &mut [u32; channel::WORDS]) -> u32 {
-    let a = store::advance(registers, channel, 2, [0, 0, 2, 0, 1, 0, 0, 0]);
-    let b = unchecked(registers, channel, 5, 0);
-    let c = unchecked(registers, channel, 6, 0);
-    let d = unchecked(registers, channel, 7, 0);
-    let e = unchecked(registers, channel, 9, 0);
-    let f = unchecked(registers, channel, 7, 1);
-    let g = unchecked(registers, channel, 9, 1);
-    let h = unchecked(registers, channel, 10, 0);
-    add(
-        add(add(one(a.result), b), add(c, d)),
-        add(add(e, f), add(g, h)),
-    )
-}
-
-fn broadcast_often(registers: &mut [u32; 593], channel: &mut [u32; channel::WORDS]) -> u32 {
-    let mut taken: u32 = 0;
-    let mut k: u32 = 0;
-    while k < 65535 {
-        taken = add(taken, broadcast(registers, channel));
-        k += 1;
-    }
-    taken
-}
-
-fn copies(
-    stdout: Stdout,
-    page: &mut [u8; 65536],
-    at: usize,
-    registers: &[u32; 593],
-    channel: &[u32; channel::WORDS],
-) -> usize {
-    let first = store::value(registers, channel, Card(0), Register(0));
-    let second = store::value(registers, channel, Card(1), Register(0));
-    tell(stdout, page, at, b", copies # and #\n", &[first, second])
-}
-
-// Two cards with a copy each: broadcast numbers end with the requests.
-pub(crate) fn broadcasts(stdout: Stdout, page: &mut [u8; 65536], at: usize) -> usize {
+// Two cards with a copy each; the task adds 1 to the register, and both cards take and deliver the update. Broadcast numbers end with the requests.
+pub(crate) fn broadcasts(out: &mut impl Write) -> io::Result<()> {
     let mut registers = [0u32; 593];
     let mut channel = [0u32; channel::WORDS];
-    store::start(&mut registers, &mut channel, 2, b"\x00", b"\x03", b"\x00");
-    let taken = broadcast_often(&mut registers, &mut channel);
-    let text = b"k13    65535 broadcasts in rounds of 8 steps, taken #";
-    let a = tell_one(stdout, page, at, text, taken);
-    let b = one_more(stdout, page, a, &mut registers, &mut channel);
-    copies(stdout, page, b, &registers, &channel)
+    let placement = Placement {
+        cards: 2,
+        homes: b"\x00",
+        copies: b"\x03",
+        primaries: b"\x00",
+    };
+    let _ = store::start(&mut registers, &mut channel, &placement);
+    let round = [
+        Step {
+            code: 2,
+            argument: [0, 0, 2, 0, 1, 0, 0, 0],
+        },
+        Step::of(5, 0),
+        Step::of(6, 0),
+        Step::of(7, 0),
+        Step::of(9, 0),
+        Step::of(7, 1),
+        Step::of(9, 1),
+        Step::of(10, 0),
+    ];
+    let taken = taken(&mut registers, &mut channel, &round, false);
+    write!(
+        out,
+        "k13    65535 broadcasts in rounds of 8 steps, taken {taken}"
+    )?;
+    one_more(out, &mut registers, &mut channel)?;
+    let first = store::value(&registers, &channel, Card(0), Register(0));
+    let second = store::value(&registers, &channel, Card(1), Register(0));
+    writeln!(out, ", copies {first} and {second}")
 }

@@ -1,175 +1,100 @@
 // A stored run and its stored answer.
 ghost use Rattle.std.specs.Prelude.{◌≤◌, length, IfOk};
 
-use console::{say, tell, tell_one};
-use names::placement::byte;
-use names::wide;
-use std::io::Stdout;
+use arrayvec::ArrayString;
+use console::Failure;
+use std::io::Write;
+use std::iter::repeat;
 use std::{fs, io};
+use tally::Tally;
+
+// NAME.ENDING, if there is room for it.
+fn path(name: &str, ending: &str) -> Option<ArrayString<16>> {
+    let mut path = ArrayString::new();
+    path.try_push_str(name).ok()?;
+    path.try_push('.').ok()?;
+    path.try_push_str(ending).ok()?;
+    Some(path)
+}
 
 // A file of the folder that the program runs in, at the start of a buffer.
-fn read(rt: HostRuntime, path: &str, buffer: &mut [u8]) -> io::Result<usize>
+fn read(rt: HostRuntime, name: &str, ending: &str, buffer: &mut [u8]) -> Result<usize, Failure>
     ensures { IfOk result (λ n. n ≤ length buffer.new) }
 {
-    let mut file = fs::open(&rt, path)?;
+    let path = path(name, ending).ok_or(Failure::Unread)?;
+    let mut file = fs::open(&rt, path.as_str()).map_err(|_| Failure::Unread)?;
     console::read_whole(&mut file, buffer)
 }
 
-// Byte i of an output that was all 165 before the answer was written to its start.
-fn expected(answer: &[u8], i: usize) -> u32 {
-    if i < answer.len() {
-        return byte(answer, i);
-    }
-    165
-}
-
-// Where an output first differs from that, or its length.
-fn difference(out: &[u8], answer: &[u8]) -> usize {
-    let mut i: usize = 0;
-    while i < out.len() {
-        if byte(out, i) != expected(answer, i) {
-            return i;
-        }
-        i += 1;
-    }
-    i
-}
-
 // The number of steps in an answer.
-fn steps(out: &[u8]) -> u32
+fn steps(answers: &[u8]) -> usize
     ensures { result ≤ 65535 }
 {
-    byte(out, 0) + 256 * byte(out, 1)
+    match answers {
+        [low, high, ..] => u16::from_le_bytes([*low, *high]) as usize,
+        _ => 0,
+    }
 }
 
-fn one_if(same: bool) -> u32 {
-    if same {
-        return 1;
-    }
-    0
+// Their results.
+fn results(answers: &[u8]) -> &[u8] {
+    answers.get(2..2 + steps(answers)).unwrap_or_default()
 }
 
-// How often a number is among the results.
-fn times(out: &[u8], number: u32) -> u32 {
-    let end = 2 + wide(steps(out));
-    let mut count: u32 = 0;
-    let mut i: usize = 2;
-    while i < end {
-        count = std::num::wrapping_add_u32(count, one_if(byte(out, i) == number));
-        i += 1;
-    }
-    count
+// Where an output that was all 165 before first differs from the answer at its start and the fill past it.
+fn difference(out: &[u8], answer: &[u8]) -> Option<usize> {
+    let expected = answer.iter().copied().chain(repeat(165));
+    out.iter()
+        .zip(expected)
+        .position(|(&byte, wanted)| byte != wanted)
 }
 
-// A number that refuses and occurs.
-fn say_if_occurs(
-    stdout: Stdout,
-    page: &mut [u8; 65536],
-    at: usize,
-    out: &[u8],
-    number: u32,
-) -> usize {
-    if names::is_taken((number % 256) as u8) {
-        return at;
+fn verdict(out: &mut impl Write, answers: &[u8], stored: &[u8]) -> io::Result<()> {
+    if stored.len() != 2 + 5 * steps(answers) {
+        return writeln!(out, ": differs in length");
     }
-    if times(out, number) == 0 {
-        return at;
+    match difference(answers, stored) {
+        Some(at) => writeln!(out, ": differs at byte {at}"),
+        None => writeln!(out, ": agrees"),
     }
-    tell_one(stdout, page, at, b" #", number)
-}
-
-// The refusals that occur.
-fn refusals(stdout: Stdout, page: &mut [u8; 65536], at: usize, out: &[u8]) -> usize {
-    let mut next = say(stdout, page, at, b", with");
-    let mut number: u32 = 1;
-    while number < 256 {
-        next = say_if_occurs(stdout, page, next, out, number);
-        number += 1;
-    }
-    next
-}
-
-fn differs(stdout: Stdout, page: &mut [u8; 65536], at: usize, out: &[u8], answer: &[u8]) -> usize {
-    let i = difference(out, answer);
-    if i == out.len() {
-        return say(stdout, page, at, b": agrees\n");
-    }
-    let a = say(stdout, page, at, b": differs at byte ");
-    let b = console::size(stdout, page, a, i);
-    say(stdout, page, b, b"\n")
-}
-
-fn verdict(stdout: Stdout, page: &mut [u8; 65536], at: usize, out: &[u8], answer: &[u8]) -> usize {
-    if answer.len() != 2 + 5 * wide(steps(out)) {
-        return say(stdout, page, at, b": differs in length\n");
-    }
-    differs(stdout, page, at, out, answer)
-}
-
-fn refused_file(stdout: Stdout, page: &mut [u8; 65536], at: usize, refusal: u8) -> usize {
-    tell_one(stdout, page, at, b" file refused #\n", refusal as u32)
 }
 
 // What is said of an accepted file.
-fn told(
-    stdout: Stdout,
-    page: &mut [u8; 65536],
-    at: usize,
-    out: &[u8],
-    answer: &[u8],
-    taken: u32,
-    refused: u32,
-) -> usize {
-    let numbers = [steps(out), taken, times(out, 100), refused];
-    let a = tell(
-        stdout,
-        page,
-        at,
-        b" steps #, taken # (held #), refused #",
-        &numbers,
-    );
-    let b = refusals(stdout, page, a, out);
-    verdict(stdout, page, b, out, answer)
+fn accepted(out: &mut impl Write, answers: &[u8], tally: Tally) -> io::Result<()> {
+    let Tally { taken, refused } = tally;
+    let results = results(answers);
+    let held = results.iter().filter(|&&one| one == 100).count();
+    let n = steps(answers);
+    write!(
+        out,
+        " steps {n}, taken {taken} (held {held}), refused {refused}, with"
+    )?;
+    for number in 1..=255u8 {
+        if !names::is_taken(number) && results.contains(&number) {
+            write!(out, " {number}")?;
+        }
+    }
+    Ok(())
 }
 
 // The file is answered, and the answer compared.
-fn compare(
-    stdout: Stdout,
-    page: &mut [u8; 65536],
-    at: usize,
-    file: &[u8],
-    answer: &[u8],
-    out: &mut [u8],
-) -> usize {
-    let answered = runfile::answer(file, out);
-    if answered.refusal != 0 {
-        return refused_file(stdout, page, at, answered.refusal);
+fn compare(out: &mut impl Write, file: &[u8], stored: &[u8]) -> io::Result<()> {
+    let mut answers = [165u8; 20482];
+    match runfile::answer(file, &mut answers) {
+        Ok(tally) => {
+            accepted(out, &answers, tally)?;
+            verdict(out, &answers, stored)
+        }
+        Err(refusal) => writeln!(out, " file refused {}", u8::from(refusal)),
     }
-    told(
-        stdout,
-        page,
-        at,
-        out,
-        answer,
-        answered.taken,
-        answered.refused,
-    )
 }
 
-// An error where one of the two files cannot be read.
-pub(crate) fn run(
-    rt: HostRuntime,
-    page: &mut [u8; 65536],
-    at: usize,
-    name: &[u8],
-    file: &str,
-    answer: &str,
-) -> io::Result<usize> {
-    let mut input = [0u8; 65536];
-    let mut stored = [0u8; 65536];
-    let mut out = [165u8; 20482];
-    let n = read(rt, file, &mut input)?;
-    let m = read(rt, answer, &mut stored)?;
-    let a = say(rt.stdout(), page, at, name);
-    Ok(compare(rt.stdout(), page, a, &input[..n], &stored[..m], &mut out))
+// A run and its answer, by their name: what is said of them in a line.
+pub(crate) fn run(rt: HostRuntime, out: &mut impl Write, name: &str) -> Result<(), Failure> {
+    let mut file = [0u8; 65536];
+    let mut answer = [0u8; 65536];
+    let n = read(rt, name, "run", &mut file)?;
+    let m = read(rt, name, "answer", &mut answer)?;
+    write!(out, "{name:<6}")?;
+    Ok(compare(out, &file[..n], &answer[..m])?)
 }

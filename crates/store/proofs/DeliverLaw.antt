@@ -20,12 +20,13 @@ use Rattle.names.proofs.Results.{taken_zero}
 use Rattle.names.specs.Placement.{Placement, home, primary, copy}
 use Rattle.automaton.specs.State.{ChannelState, deliver, channel_step}
 use Rattle.channel.specs.Layout.{cards_of, tasks_of, registers_of}
-use Rattle.channel.specs.declared.Received.TheVariants.{Got, Empty}
+use Rattle.std.specs.Prelude.{Ok, Err}
+use Rattle.names.specs.declared.refusals.Refusal.TheVariants.{NothingToDeliver}
 use Rattle.channel.specs.Inbox.{receive_answer, receive_memory}
-use Rattle.channel.specs.Answers.{received_number}
+use Rattle.names.specs.Refusals.{number_of}
 use Rattle.channel.specs.MemoryCalls.{handed_up}
 use Rattle.channel.proofs.Offered.{cards_most, Fits, fits_is, hands, head_fits_lem}
-use Rattle.channel.proofs.OfferedCalls.{receive_passes, got_number}
+use Rattle.channel.proofs.OfferedCalls.{receive_passes}
 use Rattle.claims.specs.Command as Step
 use Rattle.claims.specs.Steps.{good}
 use Rattle.claims.specs.Refusals.{outbox_room}
@@ -167,16 +168,16 @@ module _ (rs cs : List ℕ) (P : Placement) (s : Found) (z : Ready rs cs P s) (i
   inbox_is : s.channel.inbox i.0 ≡ map plain (w.inbox i.0)
   inbox_is = ap (λ c. c.inbox i.0) z.channel_shows.plain=
 
-  received : Goes cs s.channel (deliver i.0) (received_number (receive_answer cs i)) (receive_memory cs i)
+  received : Goes cs s.channel (deliver i.0) (number_of (receive_answer cs i)) (receive_memory cs i)
   received =
-      goes cs s.channel z.channel_shows (deliver i.0) (received_number (receive_answer cs i)) (receive_memory cs i)
+      goes cs s.channel z.channel_shows (deliver i.0) (number_of (receive_answer cs i)) (receive_memory cs i)
       (receive_passes cs w z.channel_long z.channel_fit z.channel_shows.shows i card)
 
   module _ (l : Letter) (r : List Letter) (e : w.inbox i.0 ≡ l ∷ r) where
     fit : Fits cs l
     fit = fits_is cs l (head_fits_lem cs w z.channel_long z.channel_fit z.channel_shows.shows i.0 card l r e)
 
-    got_it : receive_answer cs i ≡ Got l.message
+    got_it : receive_answer cs i ≡ Ok l.message
     got_it = got ∙ ap handed_up e
 
     number_is : deliver_number rs cs i ≡ body_number rs i.0 l.message.task.0 l.message.register.0 l.message.body
@@ -188,7 +189,7 @@ module _ (rs cs : List ℕ) (P : Placement) (s : Found) (z : Ready rs cs P s) (i
     delivered n =
         let y = body_ready rs cs P s z i.0 card (plain l) fit.task fit.register l.message.body n in
         let k = received in
-        let q : is_taken (received_number (receive_answer cs i)) ≡ true = ap is_taken (ap received_number got_it ∙ got_number l.message) ∙ taken_zero in
+        let q : is_taken (number_of (receive_answer cs i)) ≡ true = ap is_taken (ap number_of got_it) ∙ taken_zero in
         channel_ready rs (body_words rs i.0 l.message.task.0 l.message.register.0 l.message.body) cs (receive_memory cs i) P s
         (receiving P s i.0 (plain l) l.message.body) z y.long y.fit
         (record {
@@ -214,11 +215,11 @@ module _ (rs cs : List ℕ) (P : Placement) (s : Found) (z : Ready rs cs P s) (i
     where
       go : (a : List Letter) → w.inbox i.0 ≡ a → StepFollows rs cs P s (outcome (deliver_number rs cs i) (deliver_registers rs cs i) (deliver_channel rs cs i)) (good (Step.deliver i.0))
       go [] e =
-          let g : receive_answer cs i ≡ Empty = got ∙ ap handed_up e in
+          let g : receive_answer cs i ≡ Err NothingToDeliver = got ∙ ap handed_up e in
           follows rs cs P s z (deliver_number rs cs i) (deliver_registers rs cs i) (deliver_channel rs cs i) (Step.deliver i.0) (refl, refl)
           (rw (g, inbox_is, e)) (λ q. absurd (none g q)) (λ q. rw g (refl, refl))
         where
-          none : receive_answer cs i ≡ Empty → deliver_number rs cs i ≡ 0 → ⊥
+          none : receive_answer cs i ≡ Err NothingToDeliver → deliver_number rs cs i ≡ 0 → ⊥
           none g q = let r : ◌≡◌ {A = ℕ} 33 0 = rw g at q in omega arith
       go (l ∷ r) e =
           let f = fit l r e in

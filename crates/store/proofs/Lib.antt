@@ -1,3 +1,5 @@
+-- What the functions' answers need
+pub mod Numbers
 -- The channel's calls as the registers see them
 pub mod OverChannel
 -- Each of the ten steps follows the algorithm that the store runs

@@ -10,8 +10,9 @@ use Rattle.names.specs.declared.Body.TheVariants.{ReadDo, ReadReply, UpdateDo, U
 use Rattle.names.specs.declared.Card.{Card}
 use Rattle.names.specs.Results.{is_taken}
 use Rattle.names.specs.Update.{updated}
-use Rattle.channel.specs.declared.Received.{Received}
-use Rattle.channel.specs.declared.Received.TheVariants.{Got, NoSuchCard, Empty}
+use Rattle.std.specs.Prelude.{Result, Ok, Err}
+use Rattle.names.specs.declared.Message.{Message}
+use Rattle.names.specs.declared.refusals.Refusal.{Refusal}
 use Rattle.channel.specs.Inbox.{receive_answer}
 use Rattle.tables.specs.declared.Doing.{Doing}
 use Rattle.tables.specs.declared.Doing.TheVariants.{Quiet, AskingRead, AskingUpdate, Waiting, DoneRead, DoneUpdate}
@@ -206,19 +207,17 @@ module _ (p q : Place) (a : IsLayout p) (b : IsLayout q) (rs us : List ℕ) (z :
       (applied_match p q a b rs us z i t x f w))
   body_match i t x (UpdateReply v) = doing_match p q a b rs us z t (DoneUpdate v)
 
-  found= : (i : ℕ) (r : Received) → found_number rs i r ≡ found_number us i r
+  found= : (i : ℕ) (r : Result Message Refusal) → found_number rs i r ≡ found_number us i r
   unfolding found_number
   found= i r = go r
     where
-      go : (r : Received) → found_number rs i r ≡ found_number us i r
-      go (Got m) = body= p q a b rs us z i m.task.0 m.register.0 m.body
-      go NoSuchCard = refl
-      go Empty = refl
+      go : (r : Result Message Refusal) → found_number rs i r ≡ found_number us i r
+      go (Ok m) = body= p q a b rs us z i m.task.0 m.register.0 m.body
+      go (Err e) = refl
 
-  found_match : (i : ℕ) (r : Received) → RegistersMatch p q (found_words_at p rs i r) (found_words_at q us i r)
-  found_match i (Got m) = body_match i m.task.0 m.register.0 m.body
-  found_match i NoSuchCard = z
-  found_match i Empty = z
+  found_match : (i : ℕ) (r : Result Message Refusal) → RegistersMatch p q (found_words_at p rs i r) (found_words_at q us i r)
+  found_match i (Ok m) = body_match i m.task.0 m.register.0 m.body
+  found_match i (Err e) = z
 
   module _ (cs : List ℕ) (i : Card) where
     pub deliver= : deliver_number rs cs i ≡ deliver_number us cs i

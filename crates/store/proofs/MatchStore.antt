@@ -9,13 +9,15 @@ use borrow.Author.Tests.{eq-eqb}
 use lib.ListN.{length, get_or, replicate, length-replicate, get_or-replicate, get_or-eq_default}
 use lib.Seq.{get_or-set_other}
 use Rattle.lists.specs.Loops.{turns_keeps}
+use Rattle.std.specs.Prelude.{Result, Ok, Err}
 use Rattle.names.specs.declared.Answer.{Answer}
+use Rattle.names.specs.declared.refusals.Refusal.{Refusal}
 use Rattle.names.specs.Placement.{Placement, tasks, registers, placement_refusal}
 use Rattle.channel.specs.Layout.{cards_of, tasks_of, registers_of}
 use Rattle.channel.proofs.Offered.{begun_same}
 use Rattle.claims.specs.Steps.{RawStep}
 use Rattle.commands.specs.declared.Command.{Command}
-use Rattle.commands.specs.declared.Command.TheVariants.{RequestRead, RequestUpdate, Perform, SendRead, SendUpdate, Dispatch, TakeBroadcast, TakeSingle, Deliver, Report, Refused}
+use Rattle.commands.specs.declared.Command.TheVariants.{RequestRead, RequestUpdate, Perform, SendRead, SendUpdate, Dispatch, TakeBroadcast, TakeSingle, Deliver, Report}
 use Rattle.commands.specs.Decode.{decode_of}
 use Rattle.tables.specs.declared.Doing.TheVariants.{AskingRead, AskingUpdate}
 use Rattle.tables.specs.Layout.{Place, task_word, register_word}
@@ -25,7 +27,7 @@ use Rattle.tables.specs.Match.{IsLayout, RegistersMatch}
 use Rattle.tables.proofs.Match.{relaid, relaid_match, match_unique}
 use Rattle.tables.proofs.MatchReads.{sized=}
 use Rattle.store.specs.Requests.{bare}
-use Rattle.store.specs.Step.{Outcome, outcome, taken_at, advanced_at, stepped_at}
+use Rattle.store.specs.Step.{Outcome, outcome, taken_at, decoded_at, advanced_at, stepped_at}
 use Rattle.store.specs.Run.{Store, started, next_at, store_after_at, answers_of_at, advance_at, advance_all_at, answers_advancing_at}
 use Rattle.store.specs.Match.{MatchAt, StepMatches, AdvanceMatches, Matching, LayoutsMatch}
 use Rattle.store.proofs.Placed.{channel_sizes}
@@ -99,10 +101,13 @@ module _ (p q : Place) (a : IsLayout p) (b : IsLayout q) where
     taken_match (TakeSingle t) = plain refl z refl
     taken_match (Deliver i) = plain (deliver= p q a b rs us z cs i) (deliver_match p q a b rs us z cs i) (deliver_channel= p q a b rs us z cs i)
     taken_match (Report t) = record { answer= = report= p q a b rs us z t.0; registers = report_match p q a b rs us z t.0; channel= = refl }
-    taken_match (Refused n) = plain refl z refl
+
+    decoded_match : (d : Result Command Refusal) → Outcomes (decoded_at p rs cs d) (decoded_at q us cs d)
+    decoded_match (Ok c) = taken_match c
+    decoded_match (Err e) = plain refl z refl
 
     advanced_match : (code : ℕ) (argument : List ℕ) → Outcomes (advanced_at p rs cs code argument) (advanced_at q us cs code argument)
-    advanced_match code argument = taken_match (decode_of code argument (cards_of cs) (registers_of cs) (tasks_of cs))
+    advanced_match code argument = decoded_match (decode_of code argument (cards_of cs) (registers_of cs) (tasks_of cs))
 
     stepped_match : (code : ℕ) (argument : List ℕ) → Outcomes (stepped_at p rs cs code argument) (stepped_at q us cs code argument)
     stepped_match code argument = rw (sized= p q rs us z.alike cs) (go (store_sized us cs))

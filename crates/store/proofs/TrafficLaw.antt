@@ -19,7 +19,7 @@ use Rattle.names.proofs.Results.{not_zero_refused, result_plain}
 use Rattle.automaton.specs.State.{ChannelState, ChannelAction, dispatch, take_broadcast, take_single, channel_step}
 use Rattle.channel.specs.Layout.{channel_words, cards_of, tasks_of, registers_of}
 use Rattle.channel.specs.Letters.{fits}
-use Rattle.channel.specs.Answers.{answer_number}
+use Rattle.names.specs.Refusals.{result_number}
 use Rattle.channel.specs.Dispatch.{dispatch_answer, dispatch_memory}
 use Rattle.channel.specs.TakeBroadcast.{take_answer, take_memory}
 use Rattle.channel.specs.TakeSingle.{single_answer, single_memory}
@@ -117,22 +117,22 @@ module _ (rs cs : List ℕ) (P : Placement) (s : Found) (z : Ready rs cs P s) wh
 
   -- ---- steps 7 and 8
 
-  pub take_broadcast_follows : (i : Card) → i.0 < cards_of cs → StepFollows rs cs P s (outcome (answer_number (take_answer cs i)) rs (take_memory cs i)) (good (Step.take_broadcast i.0))
+  pub take_broadcast_follows : (i : Card) → i.0 < cards_of cs → StepFollows rs cs P s (outcome (result_number (take_answer cs i)) rs (take_memory cs i)) (good (Step.take_broadcast i.0))
   take_broadcast_follows i h =
-      let k = goes cs s.channel z.channel_shows (take_broadcast i.0) (answer_number (take_answer cs i)) (take_memory cs i)
+      let k = goes cs s.channel z.channel_shows (take_broadcast i.0) (result_number (take_answer cs i)) (take_memory cs i)
       (take_broadcast_passes cs z.channel_shows.letters z.channel_long z.channel_fit z.channel_shows.shows i h) in
-      follows_any rs cs P s z (answer_number (take_answer cs i)) rs (take_memory cs i) (Step.take_broadcast i.0) refl
+      follows_any rs cs P s z (result_number (take_answer cs i)) rs (take_memory cs i) (Step.take_broadcast i.0) refl
       (rw z.cards= (k.number ∙ take_broadcast_result mail (cards_of cs) s.channel i.0))
-      (λ n. called_ready (take_broadcast i.0) (answer_number (take_answer cs i)) (take_memory cs i) k _ (k.shows n))
+      (λ n. called_ready (take_broadcast i.0) (result_number (take_answer cs i)) (take_memory cs i) k _ (k.shows n))
       (λ n. (refl, k.untouched n))
 
-  pub take_single_follows : (t : Task) → t.0 < tasks_of cs → StepFollows rs cs P s (outcome (answer_number (single_answer cs t)) rs (single_memory cs t)) (good (Step.take_single t.0))
+  pub take_single_follows : (t : Task) → t.0 < tasks_of cs → StepFollows rs cs P s (outcome (result_number (single_answer cs t)) rs (single_memory cs t)) (good (Step.take_single t.0))
   take_single_follows t h =
-      let k = goes cs s.channel z.channel_shows (take_single t.0) (answer_number (single_answer cs t)) (single_memory cs t)
+      let k = goes cs s.channel z.channel_shows (take_single t.0) (result_number (single_answer cs t)) (single_memory cs t)
       (take_single_passes cs z.channel_shows.letters z.channel_long z.channel_fit z.channel_shows.shows t h) in
-      follows_any rs cs P s z (answer_number (single_answer cs t)) rs (single_memory cs t) (Step.take_single t.0) refl
+      follows_any rs cs P s z (result_number (single_answer cs t)) rs (single_memory cs t) (Step.take_single t.0) refl
       (rw z.cards= (k.number ∙ take_single_result mail (cards_of cs) s.channel t.0))
-      (λ n. called_ready (take_single t.0) (answer_number (single_answer cs t)) (single_memory cs t) k _ (k.shows n))
+      (λ n. called_ready (take_single t.0) (result_number (single_answer cs t)) (single_memory cs t) k _ (k.shows n))
       (λ n. (refl, k.untouched n))
 
   -- ---- step 6
@@ -159,7 +159,7 @@ module _ (rs cs : List ℕ) (P : Placement) (s : Found) (z : Ready rs cs P s) wh
 
     -- what the channel answers of it, and leaves
     abbrev number : ℕ
-    number = answer_number (dispatch_answer cs i first.message first.to)
+    number = result_number (dispatch_answer cs i first.message first.to)
 
     abbrev left : List ℕ
     left = dispatch_memory cs i first.message first.to

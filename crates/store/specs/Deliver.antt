@@ -1,11 +1,11 @@
 -- Step 9 (RULES 5.9), the four messages in the order of 000 Figure 5.
-use Rattle.std.specs.Prelude.{ℕ, Bool, cond, ◌&&◌, not, List, eqb}
+use Rattle.std.specs.Prelude.{ℕ, Bool, cond, ◌&&◌, not, List, eqb, Result, Ok, Err}
 use Rattle.names.specs.declared.Card.{Card}
 use Rattle.names.specs.declared.Body.{Body}
 use Rattle.names.specs.declared.Body.TheVariants.{ReadDo, ReadReply, UpdateDo, UpdateReply}
 use Rattle.names.specs.declared.Message.{Message}
-use Rattle.channel.specs.declared.Received.{Received}
-use Rattle.channel.specs.declared.Received.TheVariants.{Got, NoSuchCard, Empty}
+use Rattle.names.specs.declared.refusals.Refusal.{Refusal}
+use Rattle.names.specs.Refusals.{refusal_number}
 use Rattle.channel.specs.Inbox.{receive_answer, receive_memory}
 use Rattle.tables.specs.declared.Doing.TheVariants.{DoneRead, DoneUpdate}
 use Rattle.tables.specs.Layout.{Place, card_after_card, copy_at, home_of, primary_of, holds, only_card}
@@ -61,15 +61,13 @@ abbrev pub message_words_at : Place → List ℕ → ℕ → Message → List �
 message_words_at place ws i m = body_words_at place ws i m.task.0 m.register.0 m.body
 
 -- 33: the inbox is empty; 14 an absent card
-unfoldable pub found_number : List ℕ → ℕ → Received → ℕ
-found_number ws i (Got m) = message_number ws i m
-found_number ws i NoSuchCard = 14
-found_number ws i Empty = 33
+unfoldable pub found_number : List ℕ → ℕ → Result Message Refusal → ℕ
+found_number ws i (Ok m) = message_number ws i m
+found_number ws i (Err r) = refusal_number r
 
-abbrev pub found_words_at : Place → List ℕ → ℕ → Received → List ℕ
-found_words_at place ws i (Got m) = message_words_at place ws i m
-found_words_at place ws i NoSuchCard = ws
-found_words_at place ws i Empty = ws
+abbrev pub found_words_at : Place → List ℕ → ℕ → Result Message Refusal → List ℕ
+found_words_at place ws i (Ok m) = message_words_at place ws i m
+found_words_at place ws i (Err r) = ws
 
 unfoldable pub deliver_number : List ℕ → List ℕ → Card → ℕ
 deliver_number rs cs card = found_number rs card.0 (receive_answer cs card)
@@ -92,7 +90,7 @@ body_words = body_words_at card_after_card
 abbrev pub message_words : List ℕ → ℕ → Message → List ℕ
 message_words = message_words_at card_after_card
 
-abbrev pub found_words : List ℕ → ℕ → Received → List ℕ
+abbrev pub found_words : List ℕ → ℕ → Result Message Refusal → List ℕ
 found_words = found_words_at card_after_card
 
 abbrev pub deliver_registers : List ℕ → List ℕ → Card → List ℕ

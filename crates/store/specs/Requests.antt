@@ -1,6 +1,8 @@
 -- Steps 1 and 2: the quiet task now asks (RULES 5.1, 5.2). Step 10: the done task becomes quiet (5.10).
-use Rattle.std.specs.Prelude.{ℕ, ◌+◌, Bool, true, false, cond, List, eqb, ltb, set}
+use Rattle.std.specs.Prelude.{ℕ, ◌+◌, Bool, true, false, cond, Result, Ok, Err, List, eqb, ltb, set}
 use Rattle.names.specs.declared.Answer.{Answer}
+use Rattle.names.specs.declared.refusals.Refusal.{Refusal}
+use Rattle.names.specs.Refusals.{refusal_number}
 use Rattle.names.specs.Results.{is_taken}
 use Rattle.tables.specs.declared.Doing.{Doing}
 use Rattle.tables.specs.declared.Doing.TheVariants.{Quiet, AskingRead, AskingUpdate, Waiting, DoneRead, DoneUpdate}
@@ -14,6 +16,11 @@ bare n = record { result = n; value = 0 }
 -- the answer to a taken report
 abbrev pub told : ℕ → Answer
 told v = record { result = 0; value = v }
+
+-- the answer to a report
+abbrev pub answered : Result ℕ Refusal → Answer
+answered (Ok v) = told v
+answered (Err r) = bare (refusal_number r)
 
 unfoldable pub is_quiet : Doing → Bool
 is_quiet Quiet = true

@@ -1,12 +1,12 @@
 -- The store with the copies side by side, as they lie in the memory (RULES 11.8): the cases that the contracts of code cite, of what is defined over
 -- a place.
-use Rattle.std.specs.Prelude.{ℕ, List}
+use Rattle.std.specs.Prelude.{ℕ, List, Result}
 use Rattle.names.specs.declared.Answer.{Answer}
 use Rattle.names.specs.declared.Body.{Body}
 use Rattle.names.specs.declared.Card.{Card}
 use Rattle.names.specs.declared.Message.{Message}
 use Rattle.names.specs.Placement.{Placement}
-use Rattle.channel.specs.declared.Received.{Received}
+use Rattle.names.specs.declared.refusals.Refusal.{Refusal}
 use Rattle.claims.specs.Steps.{RawStep, Decoded}
 use Rattle.claims.specs.Found.{Found}
 use Rattle.commands.specs.declared.Command.{Command}
@@ -47,7 +47,7 @@ body_words = body_words_at side_by_side
 abbrev pub message_words : List ℕ → ℕ → Message → List ℕ
 message_words = message_words_at side_by_side
 
-abbrev pub found_words : List ℕ → ℕ → Received → List ℕ
+abbrev pub found_words : List ℕ → ℕ → Result Message Refusal → List ℕ
 found_words = found_words_at side_by_side
 
 abbrev pub deliver_registers : List ℕ → List ℕ → Card → List ℕ

@@ -3,6 +3,7 @@
 // second.
 #![tactic(auto)]
 
+mod answers;
 mod asking;
 mod deliver;
 mod perform;
@@ -12,6 +13,5 @@ mod traffic;
 
 pub use steps::{advance, step};
 pub use tables::begin::start;
-pub use tables::doings::{kind_of, value_of};
 pub use tables::panel::{copies, doing_of, requests, value};
 pub use tables::sized::well_sized;

@@ -2,38 +2,39 @@
 ghost use Rattle.std.specs.Prelude.{◌≡◌};
 ghost use Rattle.store.specs.SideBySide.{taken, advanced, stepped};
 
-use super::asking::{bare, report, request};
+use super::answers::{answered, bare, done};
+use super::asking::{report, request};
 use super::deliver::deliver;
 use super::perform::perform;
 use super::send::{send_read, send_update};
-use super::traffic::{dispatch, number_of};
+use super::traffic::dispatch;
 use commands::{Command, decode};
 use names::Answer;
+use names::refusals::Refusal;
 use tables::Doing;
 use tables::sized::well_sized;
 
 // A decoded step.
+// Kept, here and in all of the store: two arrays, the registers' and the channel's, as C lends them and `advanced` speaks of them; and the channel's is
+// handed on under its name alone (`.ci/layers`).
 fn take(registers: &mut [u32; 593], channel: &mut [u32; channel::WORDS], command: Command) -> Answer
     ensures registers { registers.new ≡ (taken registers.old channel.old command).registers }
     ensures channel { channel.new ≡ (taken registers.old channel.old command).channel }
     ensures answer { result ≡ (taken registers.old channel.old command).answer }
 {
     match command {
-        Command::RequestRead(t, x) => bare(request(registers, t, Doing::AskingRead(x))),
-        Command::RequestUpdate(t, x, f, w) => bare(request(
-            registers,
-            t,
-            Doing::AskingUpdate(x, f, w),
-        )),
-        Command::Perform(t) => bare(perform(registers, t)),
-        Command::SendRead(t, j) => bare(send_read(registers, t, j)),
-        Command::SendUpdate(t) => bare(send_update(registers, t)),
+        Command::RequestRead(t, x) => done(request(registers, t, Doing::AskingRead(x))),
+        Command::RequestUpdate(t, x, f, w) => {
+            done(request(registers, t, Doing::AskingUpdate(x, f, w)))
+        }
+        Command::Perform(t) => done(perform(registers, t)),
+        Command::SendRead(t, j) => done(send_read(registers, t, j)),
+        Command::SendUpdate(t) => done(send_update(registers, t)),
         Command::Dispatch(i) => bare(dispatch(registers, channel, i)),
-        Command::TakeBroadcast(i) => bare(number_of(channel::take_broadcast(channel, i))),
-        Command::TakeSingle(t) => bare(number_of(channel::take_single(channel, t))),
-        Command::Deliver(i) => bare(deliver(registers, channel, i)),
-        Command::Report(t) => report(registers, t),
-        Command::Refused(n) => bare(n),
+        Command::TakeBroadcast(i) => bare(channel::take_broadcast(channel, i)),
+        Command::TakeSingle(t) => bare(channel::take_single(channel, t)),
+        Command::Deliver(i) => done(deliver(registers, channel, i)),
+        Command::Report(t) => answered(report(registers, t)),
     }
 }
 
@@ -48,8 +49,10 @@ pub fn advance(
     ensures channel { channel.new ≡ (advanced registers.old channel.old code argument).channel }
     ensures answer { result ≡ (advanced registers.old channel.old code argument).answer }
 {
-    let command = decode(channel, code, argument);
-    take(registers, channel, command)
+    match decode(channel, code, argument) {
+        Ok(command) => take(registers, channel, command),
+        Err(refusal) => bare(Err(refusal)),
+    }
 }
 
 // A step: 6 unless both memories are well sized.
@@ -64,7 +67,7 @@ pub fn step(
     ensures answer { result ≡ (stepped registers.old channel.old code argument).answer }
 {
     if !well_sized(registers, channel) {
-        return bare(6);
+        return bare(Err(Refusal::IllSized));
     }
     advance(registers, channel, code, argument)
 }

@@ -26,11 +26,9 @@ and_false false = refl
 
 module _ (rs cs : List ℕ) where
   value_there : (i : Card) (x : Register) → i.0 < cards_of cs → x.0 < registers_of cs → value_shown rs cs i x ≡ copy_of rs i.0 x.0
-  unfolding value_shown
   value_there i x p q = rw (lt-ltb _ _ p, lt-ltb _ _ q)
 
   value_absent : (i : Card) (x : Register) → (cards_of cs ≤ i.0) ⊎ (registers_of cs ≤ x.0) → value_shown rs cs i x ≡ 0
-  unfolding value_shown
   value_absent i x (inl p) = rw (le-ltb _ _ p)
   value_absent i x (inr q) = rw (le-ltb _ _ q) (ap (λ b. cond b (copy_of rs i.0 x.0) 0) (and_false (ltb i.0 (cards_of cs))))
 

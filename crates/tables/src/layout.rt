@@ -51,6 +51,7 @@ pub fn copy_place(card: Card, register: Register) -> usize
 }
 
 // The home in a task's first word.
+#[tactic(auto, unfolding(crate::specs::Layout::home_in))]
 pub(crate) fn home_in(word: u32) -> Card
     ensures { (result.0 ≡ home_in word) × (result.0 < 2097152) }
 {
@@ -65,6 +66,7 @@ pub fn home(registers: &[u32; 593], task: Task) -> Card
 }
 
 // The set of cards that hold a copy of a register.
+#[tactic(auto, unfolding(crate::specs::Layout::holders_in))]
 pub fn holders(registers: &[u32; 593], register: Register) -> u32
     ensures { result ≡ holders_of registers.now register.0 }
 {
@@ -72,6 +74,7 @@ pub fn holders(registers: &[u32; 593], register: Register) -> u32
 }
 
 // The primary card of a register.
+#[tactic(auto, unfolding(crate::specs::Layout::primary_in))]
 pub fn primary(registers: &[u32; 593], register: Register) -> Card
     ensures { result.0 ≡ primary_of registers.now register.0 }
 {
@@ -79,6 +82,7 @@ pub fn primary(registers: &[u32; 593], register: Register) -> Card
 }
 
 // Whether a card holds a copy of a register.
+#[tactic(auto, unfolding(crate::specs::Layout::holds))]
 pub fn holds(registers: &[u32; 593], register: Register, card: Card) -> bool
     ensures { result ≡ holds registers.now register.0 card.0 }
 {

@@ -12,7 +12,7 @@ pub mod panel;
 pub mod sized;
 
 // What a task is doing (000, Figure 5: status).
-#[derive(Clone, Copy)]
+#[derive(Clone, Copy, Debug, PartialEq, Eq)]
 pub enum Doing {
     Quiet,
     // a read of a register is to be performed or sent

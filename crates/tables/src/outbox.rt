@@ -6,6 +6,8 @@ ghost use Rattle.tables.specs.Outbox.{out_count_of, roomy, posted, first_packet,
 use super::layout::{OUT, OUTBOX, card_place};
 use names::{Card, Letter, Packet};
 
+// Kept beside those of the channel, as are the rings above them: one for both would take any array and place, so it would be public and need bounds
+// from its callers, and the register layer would read words by the function that reads the channel's.
 // The packet at a place.
 fn load(registers: &[u32; 593], block: usize) -> Packet
     requires { block < 592 }
@@ -18,6 +20,7 @@ fn load(registers: &[u32; 593], block: usize) -> Packet
 }
 
 // A packet to a place.
+#[tactic(auto, unfolding(names::specs::Letters::stored))]
 fn store(registers: &mut [u32; 593], block: usize, packet: Packet)
     requires { block < 592 }
     ensures { registers.new ≡ stored registers.old block packet }
@@ -34,6 +37,7 @@ pub fn count(registers: &[u32; 593], card: Card) -> u32
 }
 
 // Whether one message more fits in a card's outbox.
+#[tactic(auto, unfolding(crate::specs::Outbox::roomy))]
 pub fn roomy(registers: &[u32; 593], card: Card) -> bool
     ensures { result ≡ roomy registers.now card.0 }
 {
@@ -41,6 +45,7 @@ pub fn roomy(registers: &[u32; 593], card: Card) -> bool
 }
 
 // One letter more at the end of a card's outbox; nothing changes where there is no room.
+#[tactic(auto, using(lists::specs::Tests::cases), unfolding(crate::specs::Outbox::posted))]
 pub fn post(registers: &mut [u32; 593], card: Card, letter: Letter)
     ensures { registers.new ≡ posted registers.old card.0 letter }
 {
@@ -52,11 +57,12 @@ pub fn post(registers: &mut [u32; 593], card: Card, letter: Letter)
         return;
     }
     let block = OUT + i * 34 + ((head % 16 + count) % 16) as usize * 2;
-    store(registers, block, names::letters::packet_of(letter));
+    store(registers, block, Packet::from(letter));
     registers[at + 1] = count + 1;
 }
 
 // The first packet of a card's outbox.
+#[tactic(auto, unfolding(crate::specs::Outbox::first_packet))]
 pub fn first(registers: &[u32; 593], card: Card) -> Packet
     ensures { result ≡ first_packet registers.now card.0 }
 {
@@ -66,6 +72,7 @@ pub fn first(registers: &[u32; 593], card: Card) -> Packet
 }
 
 // The first letter of a card's outbox leaves it.
+#[tactic(auto, using(lists::specs::Tests::cases), unfolding(crate::specs::Outbox::unposted))]
 pub fn unpost(registers: &mut [u32; 593], card: Card)
     ensures { registers.new ≡ unposted registers.old card.0 }
 {

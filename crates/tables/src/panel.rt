@@ -25,13 +25,11 @@ pub fn value(
 ) -> u32
     ensures { result ≡ value_shown registers.now channel.now card register }
 {
-    if channel::cards(channel) <= card.0 {
-        return 0;
+    if card.0 < channel::cards(channel) && register.0 < channel::registers(channel) {
+        copy(registers, card, register)
+    } else {
+        0
     }
-    if channel::registers(channel) <= register.0 {
-        return 0;
-    }
-    copy(registers, card, register)
 }
 
 // The copies of a register, card by card; 0 for an absent card or register and for a card without a copy.
@@ -48,20 +46,21 @@ pub fn copies(
     let there = register.0 < channel::registers(channel);
     let holding = holders(registers, register);
     let first = copy_place(Card(0), register);
-    let mut i: u32 = 0;
-    while i < 8 {
+    // Kept: by number: the card's, the output's and the words'; `enumerate` would give one and leave the others by number.
+    for i in 0..8 {
         let held = there & (i < cards) & names::member(holding, Card(i));
         out[i as usize] = names::picked(held, registers[first + i as usize]);
-        i += 1;
     }
 }
 
 // What a task is doing; quiet for an absent task.
+#[tactic(auto, using(lists::specs::Tests::cases), unfolding(crate::specs::Panel::doing_shown))]
 pub fn doing_of(registers: &[u32; 593], channel: &[u32; channel::WORDS], task: Task) -> Doing
     ensures { result ≡ doing_shown registers.now channel.now task }
 {
-    if channel::tasks(channel) <= task.0 {
-        return Doing::Quiet;
+    if task.0 < channel::tasks(channel) {
+        load(registers, task)
+    } else {
+        Doing::Quiet
     }
-    load(registers, task)
 }

@@ -11,15 +11,11 @@ use lib.Dec.{eqb, ltb}
 use lib.ListN.{length, get_or, set, take, replicate}
 use lib.Seq.{take-suc, length-take-le}
 use Rattle.lists.specs.Filters.{keep}
-use Rattle.lists.specs.Listings.{listing, listing_length, listing_cong, listing_at, listing_set}
+use Rattle.lists.specs.Listings.{listing, listing_cong, listing_at, listing_set}
 use Rattle.lists.specs.Queues.{push}
 use Rattle.lists.specs.Tests.{eqb_refl, eqb_not}
 use Rattle.totals.specs.Totals.{added, summed, group, group_count, card_sums, card_added}
 use Rattle.totals.proofs.Adding.{summed_snoc}
-
-pub sums_length : (cs ws : List ℕ) → length (card_sums cs ws) ≡ group_count
-unfolding card_sums
-sums_length cs ws = listing_length (λ i. summed (group i cs ws)) group_count
 
 pub sums_none : card_sums [] [] ≡ replicate group_count 0
 unfolding card_sums listing summed

@@ -1,4 +1,5 @@
 pub mod Adding
 pub mod Grouping
 pub mod CardSums
+pub mod Given
 pub mod TotalsMeaning

@@ -1,12 +1,23 @@
 -- The total of a log, read in two ways (RULES 16.1 to 16.4). A log is two parallel lists over updates: the home card of each one's task, and its
 -- operand.
-use Rattle.std.specs.Prelude.{ℕ, Bool, cond, List, [], ◌∷◌, eqb, leb, ltb, length, get_or, set}
+use Rattle.std.specs.Prelude.{ℕ, Bool, cond, List, [], ◌∷◌, Result, Ok, Err, eqb, leb, ltb, length, get_or, set}
 use Rattle.lists.specs.Every.{each}
 use Rattle.lists.specs.Filters.{keep}
 use Rattle.lists.specs.Listings.{listing}
 use Rattle.lists.specs.Made.{make}
+use Rattle.names.specs.declared.refusals.Refusal.{Refusal}
+use Rattle.names.specs.Refusals.{refusal_number}
 use Rattle.names.specs.Update.{sum_of}
-use Rattle.totals.specs.declared.Totalled.{Totalled}
+
+-- the refusal, 0 where there is none, and the total, 0 where it is refused
+pub record Totalled : Type 0 where
+  pub refusal : ℕ
+  pub total : ℕ
+
+-- what a result says: a total, or a refusal by its number
+abbrev pub totalled : Result ℕ Refusal → Totalled
+totalled (Ok n) = record { refusal = 0; total = n }
+totalled (Err r) = record { refusal = refusal_number r; total = 0 }
 
 -- one more, modulo 4,294,967,296: as function 5 adds (RULES 2.5)
 abbrev pub added : ℕ → ℕ → ℕ

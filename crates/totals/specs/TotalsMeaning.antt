@@ -2,8 +2,7 @@
 use Rattle.std.specs.Prelude.{ℕ, zero, suc, ◌+◌, ◌%◌, ◌<◌, ◌≤◌, ◌≡◌, ◌↔◌, ◌≢◌, List, [], ◌∷◌, ◌++◌, map, length}
 use Rattle.lists.specs.Histories.{In}
 use Rattle.lists.specs.Made.{Rearranged, make}
-use Rattle.totals.specs.declared.Totalled.{Totalled}
-use Rattle.totals.specs.Totals.{group, total_of, total_by_card}
+use Rattle.totals.specs.Totals.{Totalled, group, total_of, total_by_card}
 
 -- Both readings are one, for every two lists (RULES 16.5): empty, refused, of any length.
 abbrev pub TotalsSame : Type 0

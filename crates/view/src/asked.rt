@@ -1,113 +1,95 @@
 // What a step asks, in 73 columns.
-use super::number;
-use console::{column, hex, is_empty, left, pad, put, right, say, word};
-use names::placement::byte;
-use std::io::Stdout;
+use crate::step::{Kind, Step};
+use console::hexadecimal;
+use names::refusals::Refusal;
+use std::io;
+use std::io::Write;
 
-// The step's name, by its code.
-fn name(stdout: Stdout, page: &mut [u8; 65536], at: usize, code: u32) -> usize {
-    column(
-        stdout,
-        page,
-        at,
-        b";request read;request update;perform;send read;send update;dispatch;take broadcast;take single;deliver;report",
-        code,
-        16,
-    )
+// The words for a kind: its name, what byte 0 of the argument is the number of, and what byte 1 is, where the kind names it.
+struct Words {
+    name: &'static str,
+    whose: &'static str,
+    which: Option<&'static str>,
 }
 
-// Byte 0 of the argument: a task or a card.
-fn whose(stdout: Stdout, page: &mut [u8; 65536], at: usize, code: u32, argument: &[u8]) -> usize {
-    let a = column(
-        stdout,
-        page,
-        at,
-        b";task;task;task;task;task;card;card;task;card;task",
-        code,
-        5,
-    );
-    right(stdout, page, a, byte(argument, 0), 3)
-}
-
-// Byte 1: the register of a request, or the card that a read is sent to.
-fn which(stdout: Stdout, page: &mut [u8; 65536], at: usize, code: u32, argument: &[u8]) -> usize {
-    let names = b";  register ;  register ;;  to card  ";
-    if is_empty(names, code) {
-        return pad(stdout, page, at, 0, 14);
+impl Words {
+    fn of(kind: Kind) -> Words {
+        let (name, whose, which) = match kind {
+            Kind::RequestRead => ("request read", "task", Some("register")),
+            Kind::RequestUpdate => ("request update", "task", Some("register")),
+            Kind::Perform => ("perform", "task", None),
+            Kind::SendRead => ("send read", "task", Some("to card")),
+            Kind::SendUpdate => ("send update", "task", None),
+            Kind::Dispatch => ("dispatch", "card", None),
+            Kind::TakeBroadcast => ("take broadcast", "card", None),
+            Kind::TakeSingle => ("take single", "task", None),
+            Kind::Deliver => ("deliver", "card", None),
+            Kind::Report => ("report", "task", None),
+        };
+        Words { name, whose, which }
     }
-    let a = word(stdout, page, at, names, code);
-    right(stdout, page, a, byte(argument, 1), 3)
 }
 
-// Bytes 2 and 4 to 7: the function of an update and its operand.
-fn change(stdout: Stdout, page: &mut [u8; 65536], at: usize, code: u32, argument: &[u8]) -> usize {
-    if code != 2 {
-        return pad(stdout, page, at, 0, 35);
+// The function of an update.
+fn function(number: u8) -> Option<&'static str> {
+    match number {
+        1 => Some("set"),
+        2 => Some("add, stays at the top"),
+        3 => Some("larger"),
+        4 => Some("or"),
+        5 => Some("add, comes round"),
+        _ => None,
     }
-    let a = say(stdout, page, at, b"  ");
-    let b = column(
-        stdout,
-        page,
-        a,
-        b";set;add, stays at the top;larger;or;add, comes round",
-        byte(argument, 2),
-        22,
-    );
-    left(stdout, page, b, number(argument, 4), 11)
 }
 
-// Whether the bytes can be read as the step of the code: it is known, as is an update's function, and the unnamed bytes are zero.
-fn readable(code: u32, argument: &[u8], res: u32) -> bool {
-    if res == 10 {
-        return false;
-    }
-    if res == 11 {
-        return false;
-    }
-    if code != 2 {
-        return true;
-    }
-    names::known_function(byte(argument, 2))
+// The bytes of a step as they stand in the file.
+fn raw(out: &mut impl Write, step: &Step) -> io::Result<()> {
+    let code = step.code;
+    write!(out, "bytes {code:02x}")?;
+    hexadecimal(out, &step.argument)?;
+    write!(out, "{:41}", "")
 }
 
-fn one_raw(stdout: Stdout, page: &mut [u8; 65536], at: usize, byte: u32) -> usize {
-    let a = put(stdout, page, at, b' ');
-    hex(stdout, page, a, byte)
-}
-
-// The code and the argument as they stand in the file.
-fn raw(stdout: Stdout, page: &mut [u8; 65536], at: usize, code: u32, argument: &[u8]) -> usize {
-    let a = say(stdout, page, at, b"bytes");
-    let mut next = one_raw(stdout, page, a, code);
-    let mut i: usize = 0;
-    while i < argument.len() {
-        next = one_raw(stdout, page, next, byte(argument, i));
-        i += 1;
+fn read(out: &mut impl Write, step: &Step, kind: Kind) -> io::Result<()> {
+    let Words { name, whose, which } = Words::of(kind);
+    let [first, second, _, _, _, _, _, _] = step.argument;
+    write!(out, "{name:<16}{whose:<5}{first:>3}")?;
+    match which {
+        Some(named) => write!(out, "  {named:<9}{second:>3}"),
+        None => write!(out, "{:14}", ""),
     }
-    pad(stdout, page, next, 32, 73)
 }
 
-fn read(stdout: Stdout, page: &mut [u8; 65536], at: usize, code: u32, argument: &[u8]) -> usize {
-    let a = name(stdout, page, at, code);
-    let b = whose(stdout, page, a, code, argument);
-    let c = which(stdout, page, b, code, argument);
-    change(stdout, page, c, code, argument)
+// The function of an update and its operand.
+fn change(out: &mut impl Write, step: &Step, kind: Kind) -> io::Result<()> {
+    let [_, _, number, _, a, b, c, d] = step.argument;
+    match (kind, function(number)) {
+        (Kind::RequestUpdate, Some(named)) => {
+            let operand = u32::from_le_bytes([a, b, c, d]);
+            write!(out, "  {named:<22}{operand:<11}")
+        }
+        _ => write!(out, "{:35}", ""),
+    }
+}
+
+// The kind of a step, where its bytes can be read so: its code and an update's function are known, and the unnamed bytes are zero.
+fn readable(step: &Step) -> Option<Kind> {
+    match (step.kind()?, Refusal::try_from(step.result)) {
+        (_, Ok(Refusal::NoStep | Refusal::NotZero)) => None,
+        (Kind::RequestUpdate, _) if function(step.argument[2]).is_none() => None,
+        (kind, _) => Some(kind),
+    }
 }
 
 // Step k.
-pub(crate) fn show(
-    stdout: Stdout,
-    page: &mut [u8; 65536],
-    at: usize,
-    k: u32,
-    code: u32,
-    argument: &[u8],
-    res: u32,
-) -> usize {
-    let a = right(stdout, page, at, k, 4);
-    let b = say(stdout, page, a, b"  ");
-    if !readable(code, argument, res) {
-        return raw(stdout, page, b, code, argument);
+pub(crate) fn show(out: &mut impl Write, step: &Step) -> io::Result<()> {
+    let k = step.number;
+    write!(out, "{k:>4}  ")?;
+    match readable(step) {
+        Some(kind) => {
+            read(out, step, kind)?;
+            change(out, step, kind)
+        }
+        None => raw(out, step),
     }
-    read(stdout, page, b, code, argument)
 }

@@ -105,6 +105,10 @@ pub decimal_more : (n : ℕ) → n < 4294967296 → 10 ≤ n → decimal n ≡ d
 unfolding decimal
 decimal_more n h l = digits_more 9 n l ∙ ap (λ d. d ++ ((48 + n % 10) ∷ [])) (same 8 (n / 10) (omega arith))
 
+-- a digit shorter
+pub decimal_longer : (n : ℕ) → n < 4294967296 → 10 ≤ n → length (decimal n) ≡ length (decimal (n / 10)) + 1
+decimal_longer n h l = ap length (decimal_more n h l) ∙ length-append (decimal (n / 10)) ((48 + n % 10) ∷ [])
+
 pub decimal_one : (n : ℕ) → n < 10 → decimal n ≡ (48 + n) ∷ []
 unfolding decimal
 decimal_one n h = digits_one 9 n h

@@ -10,7 +10,10 @@ use borrow.Author.Tests.{eqb-true, leb-true, ltb-true, ltb-false, lt-leb}
 use Rattle.lists.specs.Tests.{eqb_refl, eqb_not, and_intro, and_false}
 use Rattle.lists.specs.Every.{each, each_at}
 use Rattle.lists.specs.All.{all, all_head, all_tail}
-use Rattle.words.specs.Phrases.{of_bytes, of_tasks, of_moves, phrases, found, phrase_of, silent}
+use Rattle.names.specs.declared.refusals.Refusal.{Refusal}
+use Rattle.names.specs.declared.refusals.Refusal.TheVariants.{IllSized, NoStep, NotZero, NoTask, NoRegister, NoCard, NoFunction, RequestOpen, NotReady, CopiesForbid, NoRequests, NothingToSend, NoBroadcast, NoneInFlight, NothingToDeliver, FarBehind, Crowded}
+use Rattle.names.specs.Refusals.{refusal_number}
+use Rattle.words.specs.Phrases.{phrases, found, phrase_of, silent}
 use Rattle.words.specs.Meaning.{is_letter, numbered}
 
 abbrev Entry : Type 0
@@ -32,37 +35,19 @@ by_entry {A} n e here later = go (eqb n e.0) refl
     go true h = here h
     go false h = later h
 
--- no entry of a table has a smaller number; none has a number as large
-above : (b n : ℕ) (es : List Entry) → all (λ e. leb b e.0) es ≡ true → n < b → found n es ≡ []
-unfolding found
-above b n [] h k = refl
-above b n (e ∷ es) h k =
-    let g = leb-true b e.0 (all_head (λ d. leb b d.0) e es h) in
-    found_later n e es (eqb_not (λ (q : n ≡ e.0). omega arith)) ∙ above b n es (all_tail (λ d. leb b d.0) e es h) k
-
+-- every entry of a table has a smaller number: none is found
 below : (b n : ℕ) (es fs : List Entry) → all (λ e. ltb e.0 b) es ≡ true → b ≤ n → found n (es ++ fs) ≡ found n fs
 below b n [] fs h k = refl
 below b n (e ∷ es) fs h k =
     let g = ltb-true e.0 b (all_head (λ d. ltb d.0 b) e es h) in
     found_later n e (es ++ fs) (eqb_not (λ (q : n ≡ e.0). omega arith)) ∙ below b n es fs (all_tail (λ d. ltb d.0 b) e es h) k
 
-front : (n : ℕ) (es fs : List Entry) → found n fs ≡ [] → found n (es ++ fs) ≡ found n es
-unfolding found
-front n [] fs h = h
-front n (e ∷ es) fs h = ap (cond (eqb n e.0) e.1) (front n es fs h)
-
--- in which part of the table a number stands
-pub low : (n : ℕ) → n < 20 → phrase_of n ≡ found n of_bytes
-unfolding phrase_of all
-low n h = front n of_bytes (of_tasks ++ of_moves) (above 20 n (of_tasks ++ of_moves) refl h)
-
-pub middle : (n : ℕ) → 20 ≤ n → n < 30 → phrase_of n ≡ found n of_tasks
-unfolding phrase_of all
-middle n h k = below 20 n of_bytes (of_tasks ++ of_moves) refl h ∙ front n of_tasks of_moves (above 30 n of_moves refl k)
-
-pub high : (n : ℕ) → 30 ≤ n → phrase_of n ≡ found n of_moves
-unfolding phrase_of all
-high n h = below 20 n of_bytes (of_tasks ++ of_moves) refl (omega arith) ∙ below 30 n of_tasks of_moves refl h
+-- a number that refuses nothing has no phrase
+pub unrefused : (n : ℕ) → ((r : Refusal) → refusal_number r ≡ n → ⊥) → phrase_of n ≡ []
+unfolding phrase_of found
+unrefused n h =
+    let other = λ (r : Refusal). eqb_not {m = n} {n = refusal_number r} (λ q. h r (sym q)) in
+    simp (other IllSized, other NoStep, other NotZero, other NoTask, other NoRegister, other NoCard, other NoFunction, other RequestOpen, other NotReady, other CopiesForbid, other NoRequests, other NothingToSend, other NoBroadcast, other NoneInFlight, other NothingToDeliver, other FarBehind, other Crowded)
 
 -- what every text of a table passes, and nothing passes too, passes what is found
 found_text : (p : List ℕ → Bool) (n : ℕ) (es : List Entry) → p [] ≡ true → all (λ e. p e.1) es ≡ true → p (found n es) ≡ true

@@ -10,11 +10,10 @@ use lib.Seq.{take-append_seam, get_or-append-add, get_or-drop}
 use borrow.Author.Tests.{lt-ltb, le-ltb, ltb-true, ltb-false, eqb-false}
 use Rattle.lists.specs.Tests.{clash}
 use Rattle.lists.specs.All.{all, all_head, all_tail}
-use Rattle.words.specs.declared.Said.{Said}
 use Rattle.words.specs.Bytes.{bytes_of}
 use Rattle.words.specs.Decimal.{digits_of, decimal}
 use Rattle.words.specs.Phrases.{found, phrase_of, silent}
-use Rattle.words.specs.Sentence.{sentence_of, told_of, told_output, said_of, sentence_output}
+use Rattle.words.specs.Sentence.{Said, sentence_of, told_of, told_output, said_of, sentence_output}
 use Rattle.words.specs.Meaning.{read_from, is_digit, SentencesMean}
 use Rattle.words.proofs.DecimalLaws as D
 use Rattle.words.proofs.PhraseLaws as P

@@ -1,9 +1,20 @@
 -- A refusal in a sentence (RULES 14): "step 12: the card has nothing to deliver".
-use Rattle.std.specs.Prelude.{ℕ, cond, List, ◌++◌, ltb, length, drop}
+use Rattle.std.specs.Prelude.{ℕ, cond, List, ◌++◌, ltb, length, drop, Result, Ok, Err}
+use Rattle.names.specs.declared.refusals.Refusal.{Refusal}
+use Rattle.names.specs.Refusals.{refusal_number}
 use Rattle.words.specs.Bytes.{bytes_of}
 use Rattle.words.specs.Decimal.{decimal}
 use Rattle.words.specs.Phrases.{phrase_of, silent}
-use Rattle.words.specs.declared.Said.{Said}
+
+-- the refusal, 0 where there is none, and the text's length, 0 where it is refused
+pub record Said : Type 0 where
+  pub refusal : ℕ
+  pub length : ℕ
+
+-- what a result says: a length, or a refusal by its number
+abbrev pub said : Result ℕ Refusal → Said
+said (Ok n) = record { refusal = 0; length = n }
+said (Err r) = record { refusal = refusal_number r; length = 0 }
 
 -- "step ", the number in decimal, ": " and the phrase (RULES 14.1)
 unfoldable pub sentence_of : ℕ → ℕ → List ℕ

@@ -1,77 +1,71 @@
-use mathlib.Core.Path.{refl, sym, ap, ◌∙◌}
+use mathlib.Core.Path.{◌≡◌, refl, sym, ap, ◌∙◌}
 use native.Mathlib.Omega.{arith}
-use Rattle.names.specs.Placement.{Placement, placement, tasks, registers}
+use lib.ListN.{length}
+use Rattle.names.specs.Placement.{Placement, placement}
 use Rattle.names.proofs.PlacementLaws.{in_range_lem}
+use Rattle.runfile.specs.Head.{head_of}
+use Rattle.names.proofs.RefusalsMeaning.{refusals_meaning}
 use Rattle.loads.proofs.LoadTables.{head_room, head_refused, steps_behind}
 use Rattle.loads.proofs.load.Goals as goal
 
-pub overflow_add-homes-then-begun-eq0 : goal.overflow_add-homes-then-begun-eq0
-overflow_add-homes-then-begun-eq0 c =
+pub returns-in_err-length-clause-output : goal.returns-in_err-length-clause-output
+returns-in_err-length-clause-output c =
     let a = c.args in
-    let P : Placement = placement a.cards a.homes.now a.copies.now a.primaries.now in
-    let h = c.head-begun in
-    let none = sym (ap (λ r. r.refusal) h.ensures.said) ∙ c.if-begun-eq0.true in
-    let r = (head_room a.seed P a.steps a.out.now none).0 in
+    let h = c.in_err-length.ensures in
+    h.output ∙ head_refused a.seed a.placement.now a.steps a.out.now (λ e. (refusals_meaning.not_taken c.in_err-length.field-0.0).0 (ap (λ r. r.refusal) h.said ∙ e))
+
+pub overflow_add-tasks-2 : goal.overflow_add-tasks-2
+overflow_add-tasks-2 c =
+    let a = c.args in
+    let none = sym (ap (λ r. r.refusal) c.in_ok-length.ensures.said) in
+    let room = rw (← c.placement.view_is) at (head_room a.seed a.placement.now a.steps a.out.now none) in
+    let r = room.0 in
     omega (arith, r.0.3, r.0.5, r.1)
 
-pub overflow_add-homes-then-begun-eq0-2 : goal.overflow_add-homes-then-begun-eq0-2
-overflow_add-homes-then-begun-eq0-2 c =
+pub overflow_add-tasks-3 : goal.overflow_add-tasks-3
+overflow_add-tasks-3 c =
     let a = c.args in
-    let P : Placement = placement a.cards a.homes.now a.copies.now a.primaries.now in
-    let h = c.head-begun in
-    let none = sym (ap (λ r. r.refusal) h.ensures.said) ∙ c.if-begun-eq0.true in
-    let r = (head_room a.seed P a.steps a.out.now none).0 in
+    let none = sym (ap (λ r. r.refusal) c.in_ok-length.ensures.said) in
+    let room = rw (← c.placement.view_is) at (head_room a.seed a.placement.now a.steps a.out.now none) in
+    let r = room.0 in
     omega (arith, r.0.3, r.0.5, r.1)
 
-pub overflow_cast-copies : goal.overflow_cast-copies
-overflow_cast-copies c =
+pub overflow_cast-ranges : goal.overflow_cast-ranges
+overflow_cast-ranges c =
     let a = c.args in
-    let P : Placement = placement a.cards a.homes.now a.copies.now a.primaries.now in
-    let h = c.head-begun in
-    let none = sym (ap (λ r. r.refusal) h.ensures.said) ∙ c.if-begun-eq0.true in
-    let r = (head_room a.seed P a.steps a.out.now none).0 in
+    let none = sym (ap (λ r. r.refusal) c.in_ok-length.ensures.said) in
+    let room = rw (← c.placement.view_is) at (head_room a.seed a.placement.now a.steps a.out.now none) in
+    let r = room.0 in
     omega (arith, r.0.3, r.0.5, r.1)
 
-pub overflow_cast-homes : goal.overflow_cast-homes
-overflow_cast-homes c =
+pub overflow_cast-ranges-2 : goal.overflow_cast-ranges-2
+overflow_cast-ranges-2 c =
     let a = c.args in
-    let P : Placement = placement a.cards a.homes.now a.copies.now a.primaries.now in
-    let h = c.head-begun in
-    let none = sym (ap (λ r. r.refusal) h.ensures.said) ∙ c.if-begun-eq0.true in
-    let r = (head_room a.seed P a.steps a.out.now none).0 in
+    let none = sym (ap (λ r. r.refusal) c.in_ok-length.ensures.said) in
+    let room = rw (← c.placement.view_is) at (head_room a.seed a.placement.now a.steps a.out.now none) in
+    let r = room.0 in
     omega (arith, r.0.3, r.0.5, r.1)
 
 pub put_steps-requires : goal.put_steps-requires
 put_steps-requires c =
     let a = c.args in
-    let P : Placement = placement a.cards a.homes.now a.copies.now a.primaries.now in
-    let h = c.head-begun in
-    let none = sym (ap (λ r. r.refusal) h.ensures.said) ∙ c.if-begun-eq0.true in
-    let room = head_room a.seed P a.steps a.out.now none in (
-      (in_range_lem a.cards (registers P) (tasks P)).1 room.0.0,
-      omega (arith, room.1, c.wide.ensures.0),
-      omega (arith, room.2, c.wide.ensures.0, h.auto.out),
-    )
+    let none = sym (ap (λ r. r.refusal) c.in_ok-length.ensures.said) in
+    let room = rw (← c.placement.view_is) at (head_room a.seed a.placement.now a.steps a.out.now none) in
+    (room.1, omega (arith, room.2, c.head.auto.out))
 
-pub returns-then-begun-eq0 : goal.returns-then-begun-eq0
-returns-then-begun-eq0 c =
+pub invariant_of-ranges : goal.invariant_of-ranges
+invariant_of-ranges c =
     let a = c.args in
-    let P : Placement = placement a.cards a.homes.now a.copies.now a.primaries.now in
-    let h = c.head-begun in
-    let none = sym (ap (λ r. r.refusal) h.ensures.said) ∙ c.if-begun-eq0.true in
-    let p = c.put_steps in
-    let w = c.wide.ensures.0 in
-    record {
-      said = h.ensures.said;
-      output = rw (p.ensures, w, h.ensures.output) (steps_behind a.seed P a.steps a.out.now none _ refl);
-    }
+    let none = sym (ap (λ r. r.refusal) c.in_ok-length.ensures.said) in
+    let room = rw (← c.placement.view_is) at (head_room a.seed a.placement.now a.steps a.out.now none) in
+    let i = c.placement.inside in
+    record { sound = (in_range_lem i.cards (length i.copies.now) (length i.homes.now)).1 room.0.0 }
 
-pub returns-else-begun-eq0 : goal.returns-else-begun-eq0
-returns-else-begun-eq0 c =
+pub returns-clause-output : goal.returns-clause-output
+returns-clause-output c =
     let a = c.args in
-    let P : Placement = placement a.cards a.homes.now a.copies.now a.primaries.now in
-    let h = c.head-begun in
-    record {
-      said = h.ensures.said;
-      output = h.ensures.output ∙ head_refused a.seed P a.steps a.out.now (λ e. c.if-begun-eq0.false (ap (λ r. r.refusal) h.ensures.said ∙ e));
-    }
+    let i = c.placement.inside in
+    let P : Placement = placement i.cards i.homes.now i.copies.now i.primaries.now in
+    let h = c.in_ok-length.ensures in
+    let none : (head_of a.placement.now a.steps a.out.now).refusal ≡ 0 = sym (ap (λ r. r.refusal) h.said) in
+    rw (c.put_steps.ensures, h.output, ← c.placement.view_is) (steps_behind a.seed P a.steps a.out.now (rw (← c.placement.view_is) at none) _ refl)

@@ -12,8 +12,7 @@ use Rattle.logs.proofs.LogTables.{entries_most, cards_none, operands_none, log_z
 use Rattle.logs.proofs.go.Goals as goal
 
 pub loop-k-init : goal.loop-k-init
-loop-k-init c = let s = c.args.file.now in let x = c.args.register.0 in let m = stored c.args.registers.now c.args.channel.now in let z = store_zero (step_in s) m in let l = sym (log_zero (placement_in s) x (step_in s) m) in (
-  omega arith,
+loop-k-init c = let s = c.args.log.now.file.now in let x = c.args.log.now.register.0 in let m = stored c.args.registers.now c.args.channel.now in let z = store_zero (step_in s) m in let l = sym (log_zero (placement_in s) x (step_in s) m) in (
   ap (λ (q : Store). q.registers) (sym z),
   ap (λ (q : Store). q.channel) (sym z),
   sym (cards_none c.args.cards.now) ∙ ap (cards_put c.args.cards.now 0) l,
@@ -24,28 +23,27 @@ loop-k-init c = let s = c.args.file.now in let x = c.args.register.0 in let m = 
 
 pub put-n-requires : goal.put-n-requires
 put-n-requires c = let n = ap (λ (z : Sizes). z.steps) c.sizes_of-steps.ensures in
-    omega (arith, n, c.requires, c.loop-k.invariant.6, c.loop-k-test.true)
+    omega (arith, n, c.requires, c.loop-k.invariant.5)
 
 pub loop-k-preserved : goal.loop-k-preserved
-loop-k-preserved c = let s = c.args.file.now in let x = c.args.register.0 in let m = stored c.args.registers.now c.args.channel.now in let l = c.loop-k in let k = c.loop-k.k in
+loop-k-preserved c = let s = c.args.log.now.file.now in let x = c.args.log.now.register.0 in let m = stored c.args.registers.now c.args.channel.now in let l = c.loop-k in let k = c.loop-k.k in
     let more = store_more (step_in s) m k in
-    let turn = c.turn-entry in
-    let e = turn.ensures.entry ∙ entry_is (placement_in s) x (step_in s) m k l.registers l.channel l.invariant.1 l.invariant.2 in (
-      omega arith,
-      turn.ensures.registers ∙ ap₂ (λ a b. (advanced a b (code_in s k) (argument_in s k)).registers) l.invariant.1 l.invariant.2 ∙ ap (λ (q : Store). q.registers) (sym more),
-      turn.ensures.channel ∙ ap₂ (λ a b. (advanced a b (code_in s k) (argument_in s k)).channel) l.invariant.1 l.invariant.2 ∙ ap (λ (q : Store). q.channel) (sym more),
-      c.put-n.ensures.cards ∙ cards_more (placement_in s) x (step_in s) m k l.n turn.result l.invariant.5 e c.args.cards.now l.cards l.invariant.3,
-      c.put-n.ensures.operands ∙ operands_more (placement_in s) x (step_in s) m k l.n turn.result l.invariant.5 e c.args.operands.now l.operands l.invariant.4,
-      c.put-n.ensures.place ∙ length_more (placement_in s) x (step_in s) m k l.n turn.result l.invariant.5 e,
-      omega (arith, c.put-n.ensures.place, entries_most turn.result, l.invariant.6),
+    let turn = c.turn-added in
+    let e = turn.ensures.entry ∙ entry_is (placement_in s) x (step_in s) m k l.registers l.channel l.invariant.0 l.invariant.1 in (
+      turn.ensures.registers ∙ ap₂ (λ a b. (advanced a b (code_in s k) (argument_in s k)).registers) l.invariant.0 l.invariant.1 ∙ ap (λ (q : Store). q.registers) (sym more),
+      turn.ensures.channel ∙ ap₂ (λ a b. (advanced a b (code_in s k) (argument_in s k)).channel) l.invariant.0 l.invariant.1 ∙ ap (λ (q : Store). q.channel) (sym more),
+      c.put-n.ensures.cards ∙ cards_more (placement_in s) x (step_in s) m k l.n turn.result l.invariant.4 e c.args.cards.now l.cards l.invariant.2,
+      c.put-n.ensures.operands ∙ operands_more (placement_in s) x (step_in s) m k l.n turn.result l.invariant.4 e c.args.operands.now l.operands l.invariant.3,
+      c.put-n.ensures.place ∙ length_more (placement_in s) x (step_in s) m k l.n turn.result l.invariant.4 e,
+      omega (arith, c.put-n.ensures.place, entries_most turn.result, l.invariant.5),
     )
 
 pub returns : goal.returns
-returns c = let s = c.args.file.now in let l = c.loop-k in
+returns c = let s = c.args.log.now.file.now in let l = c.loop-k in
     let n = ap (λ (z : Sizes). z.steps) c.sizes_of-steps.ensures in
-    let k : l.k ≡ steps_in s = omega (arith, n, l.invariant.0, c.loop-k-test.false) in
+    let k : l.k ≡ steps_in s = omega (arith, n) in
     record {
-      cards = rw k at l.invariant.3;
-      operands = rw k at l.invariant.4;
-      count = rw k at l.invariant.5;
+      cards = rw k at l.invariant.2;
+      operands = rw k at l.invariant.3;
+      count = rw k at l.invariant.4;
     }

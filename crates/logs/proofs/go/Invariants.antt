@@ -1,5 +1,6 @@
 use mathlib.Core.Path.{◌≡◌}
-use Prim.Native.Nat.{◌-◌, ◌≤◌}
+use Prim.Native.Nat.{ℕ, ◌≤◌}
+use mathlib.Core.List.{List}
 use lib.ListN.{length}
 use Rattle.runfile.specs.RunFile.{placement_in, step_in}
 use Rattle.runfile.specs.Stepwise.{stored, store_at}
@@ -8,13 +9,11 @@ use Rattle.logs.proofs.go.Given as goal
 
 abbrev pub invariant-loop-k : goal.invariant-loop-k
 invariant-loop-k l =
-    (l.k ≤ l.steps)
-    × (l.registers ≡ (store_at (step_in l.file) (stored l.initial.registers l.initial.channel) l.k).registers)
-    × (l.channel ≡ (store_at (step_in l.file) (stored l.initial.registers l.initial.channel) l.k).channel)
-    × (l.cards ≡ cards_put l.initial.cards 0 (log_at (placement_in l.file) l.register.0 (step_in l.file) (stored l.initial.registers l.initial.channel) l.k))
-    × (l.operands ≡ operands_put l.initial.operands 0 (log_at (placement_in l.file) l.register.0 (step_in l.file) (stored l.initial.registers l.initial.channel) l.k))
-    × (l.n ≡ length (log_at (placement_in l.file) l.register.0 (step_in l.file) (stored l.initial.registers l.initial.channel) l.k))
+    let s : List ℕ = l.log.file.now in
+    let so_far : List (ℕ × ℕ) = log_at (placement_in s) l.log.register.0 (step_in s) (stored l.initial.registers l.initial.channel) l.k in
+    (l.registers ≡ (store_at (step_in s) (stored l.initial.registers l.initial.channel) l.k).registers)
+    × (l.channel ≡ (store_at (step_in s) (stored l.initial.registers l.initial.channel) l.k).channel)
+    × (l.cards ≡ cards_put l.initial.cards 0 so_far)
+    × (l.operands ≡ operands_put l.initial.operands 0 so_far)
+    × (l.n ≡ length so_far)
     × (l.n ≤ l.k)
-
-abbrev pub decreases-loop-k : goal.decreases-loop-k
-decreases-loop-k l = l.steps - l.k

@@ -4,7 +4,7 @@ use Prim.Native.Nat.{ℕ, ◌%◌}
 use native.Mathlib.Omega.{arith}
 use lib.ListN.{length, length-map, replicate}
 use lib.Seq.{sets}
-use borrow.Author.Tests.{eq-eqb, ne_eqb}
+use borrow.Author.Tests.{eq-eqb}
 use Rattle.channel.specs.Layout.{channel_words}
 use Rattle.store.specs.Run.{Store, started}
 use Rattle.runfile.specs.RunFile.{steps_in, placement_in, step_in, file_refusal}
@@ -23,33 +23,19 @@ file_started : (file : List ℕ) → file_refusal file ≡ 0 → (m : Store)
 unfolding file_registers file_channel
 file_started file ok m = rw (eq-eqb _ _ ok)
 
-pub returns-then-number-ne0 : goal.returns-then-number-ne0
-unfolding cards_logged operands_logged logged_of
-returns-then-number-ne0 c = let number = c.start-number.ensures.number in let z = rw number at (ne_eqb _ _ c.if-number-ne0.true) in record {
-  cards = simp z;
-  operands = simp z;
-  said = simp (z, number);
-  room = omega arith;
-}
-
-pub go-n-requires : goal.go-n-requires
-go-n-requires c = accepted_most _ (sym c.start-number.ensures.number ∙ c.if-number-ne0.false)
-
-pub overflow_cast-result : goal.overflow_cast-result
-overflow_cast-result c = let s = c.args.file.now in
-    let most = accepted_most s (sym c.start-number.ensures.number ∙ c.if-number-ne0.false) in
-    omega (arith, most, c.go-n.ensures.count, log_most (placement_in s) c.args.register.0 (step_in s) (stored c.start-number.new.registers c.start-number.new.channel) (steps_in s))
+pub go-requires : goal.go-requires
+go-requires c = accepted_most _ (sym c.in_ok-start.ensures.number)
 
 pub returns : goal.returns
 unfolding cards_put operands_put cards_logged operands_logged logged_of
 returns c = let s = c.args.file.now in let x = c.args.register.0 in
-    let ok : file_refusal s ≡ 0 = sym c.start-number.ensures.number ∙ c.if-number-ne0.false in
+    let ok : file_refusal s ≡ 0 = sym c.in_ok-start.ensures.number in
     let z = eq-eqb (file_refusal s) 0 ok in
     let m : Store = stored (replicate 593 0) (replicate channel_words 0) in
-    let same : stored c.start-number.new.registers c.start-number.new.channel ≡ started (placement_in s) m = ap₂ (λ (a : List ℕ) (b : List ℕ). stored a b) c.start-number.ensures.registers c.start-number.ensures.channel ∙ file_started s ok m in
+    let same : stored c.start.new.registers c.start.new.channel ≡ started (placement_in s) m = ap₂ (λ (a : List ℕ) (b : List ℕ). stored a b) c.start.ensures.registers c.start.ensures.channel ∙ file_started s ok m in
     let law = file_log s ok x m in record {
-      cards = rw z (c.go-n.ensures.cards ∙ ap (λ q. cards_put c.args.cards.now 0 (log_at (placement_in s) x (step_in s) q (steps_in s))) same ∙ ap (sets c.args.cards.now 0) law.0);
-      operands = rw z (c.go-n.ensures.operands ∙ ap (λ q. operands_put c.args.operands.now 0 (log_at (placement_in s) x (step_in s) q (steps_in s))) same ∙ ap (sets c.args.operands.now 0) law.1);
-      said = rw z (ap (λ (k : ℕ). record { refusal = 0; length = k }) (c.go-n.ensures.count ∙ ap (λ q. length (log_at (placement_in s) x (step_in s) q (steps_in s))) same ∙ sym (length-map (log_at (placement_in s) x (step_in s) (started (placement_in s) m) (steps_in s)) (λ e. e.0 % 256)) ∙ ap length law.0));
-      room = omega (arith, accepted_most s ok, c.go-n.ensures.count, log_most (placement_in s) x (step_in s) (stored c.start-number.new.registers c.start-number.new.channel) (steps_in s));
+      cards = rw z (c.go.ensures.cards ∙ ap (λ q. cards_put c.args.cards.now 0 (log_at (placement_in s) x (step_in s) q (steps_in s))) same ∙ ap (sets c.args.cards.now 0) law.0);
+      operands = rw z (c.go.ensures.operands ∙ ap (λ q. operands_put c.args.operands.now 0 (log_at (placement_in s) x (step_in s) q (steps_in s))) same ∙ ap (sets c.args.operands.now 0) law.1);
+      said = rw z (ap (λ (k : ℕ). record { refusal = 0; length = k }) (c.go.ensures.count ∙ ap (λ q. length (log_at (placement_in s) x (step_in s) q (steps_in s))) same ∙ sym (length-map (log_at (placement_in s) x (step_in s) (started (placement_in s) m) (steps_in s)) (λ e. e.0 % 256)) ∙ ap length law.0));
+      room = omega (arith, accepted_most s ok, c.go.ensures.count, log_most (placement_in s) x (step_in s) (stored c.start.new.registers c.start.new.channel) (steps_in s));
     }

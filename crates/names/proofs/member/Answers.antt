@@ -4,12 +4,8 @@ use Rattle.lists.specs.Tests.{cases}
 use Rattle.names.specs.CardSet.{member_of}
 use Rattle.names.proofs.member.Goals as goal
 
-pub returns-then-i-ge32 : goal.returns-then-i-ge32
+pub returns-else-card-lt32 : goal.returns-else-card-lt32
 unfolding member_of
-returns-then-i-ge32 c = let big : 2 ^ 32 ≤ 2 ^ c.args.card.0 = pow-le-pow_right (omega arith) c.if-i-ge32.true in
+returns-else-card-lt32 c = let big : 2 ^ 32 ≤ 2 ^ c.args.card.0 = pow-le-pow_right (omega arith) {i = 32} {j = c.args.card.0} (omega arith) in
     let less : c.args.set < 2 ^ c.args.card.0 = omega arith in
-    rw (div-eq_of_lt less)
-
-pub returns : goal.returns
-unfolding member_of
-returns c = search (rules, cases)
+    rw (div-eq_of_lt less) (search (rules, cases))

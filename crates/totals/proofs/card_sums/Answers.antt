@@ -1,26 +1,30 @@
-use Prim.Native.Nat.{min, ◌+◌}
-use mathlib.Core.Path.{◌≡◌, refl, sym, ap, ◌∙◌}
+use mathlib.Core.Path.{sym, ◌∙◌}
+use mathlib.Core.List.{[], ◌∷◌}
 use native.Mathlib.Omega.{arith}
-use lib.ListN.{length, get_or, take}
-use Rattle.totals.proofs.CardSums.{sums_length, sums_none, sums_more, sums_taken}
-use borrow.Author.Rules.{rules}
-use Rattle.totals.specs.Totals.{card_added}
+use lib.ListN.{length, length-append}
+use Rattle.std.proofs.lemmas.Slice.Zip.{zip_turn, zip_end}
+use Rattle.totals.proofs.CardSums.{sums_none, sums_more, sums_taken}
 use Rattle.totals.proofs.card_sums.Goals as goal
 
-pub loop-k-init : goal.loop-k-init
-loop-k-init c = (search rules, refl, sym sums_none)
+pub loop-card-init : goal.loop-card-init
+loop-card-init c = sym sums_none
 
-pub overflow_cast-cards : goal.overflow_cast-cards
-overflow_cast-cards c = omega (arith, c.shared_slice_known-in-loop-k-1.given c.loop-k.k)
-
-pub loop-k-preserved : goal.loop-k-preserved
-loop-k-preserved c = let l = c.loop-k in let a = c.args in
-    let e = c.shorter-n.ensures in
-    let t = c.loop-k-test.true in
-    let s = c.add.ensures ∙ ap (λ s. card_added s (get_or a.cards.now l.k 0) (get_or a.operands.now l.k 0)) l.invariant.2 ∙ sym (sums_more a.cards.now a.operands.now l.k (omega arith) (omega arith)) in
-    (search rules, ap length s ∙ sums_length (take (l.k + 1) a.cards.now) (take (l.k + 1) a.operands.now), s)
+pub loop-card-preserved : goal.loop-card-preserved
+loop-card-preserved c =
+    let cs = c.args.cards.now in
+    let ws = c.args.operands.now in
+    let seen = c.loop-card.yielded in
+    let turn = zip_turn cs ws seen c.into_iter-card-iterator.result c.loop-card.card-iterator c.next.new.self c.next.result (cc) (cc) c.loop-card.yielded_by _ c.in-Some.is c.next.ensures.steps in
+    let card = turn.2 0 in
+    let operand = turn.3 0 in
+    let more = sums_more cs ws (length seen) turn.0 turn.1 in
+    let longer = length-append seen ((c.in-Some.field-0-0, c.in-Some.field-0-1) ∷ []) in
+    cc
 
 pub returns : goal.returns
-returns c = let l = c.loop-k in let a = c.args in
-    let e : l.k ≡ min (length a.cards.now) (length a.operands.now) = omega (arith, c.shorter-n.ensures) in
-    l.invariant.2 ∙ sums_taken a.cards.now a.operands.now l.k (omega arith)
+returns c =
+    let cs = c.args.cards.now in
+    let ws = c.args.operands.now in
+    let seen = c.loop-card.yielded in
+    let end = zip_end cs ws seen c.into_iter-card-iterator.result c.loop-card.card-iterator c.next.new.self c.next.result (cc) (cc) c.loop-card.yielded_by c.in-None.is c.next.ensures.steps in
+    c.loop-card.invariant ∙ sums_taken cs ws (length seen) (omega arith)

@@ -1,7 +1,6 @@
 use Prim.Native.Nat.{ℕ, ◌≤◌, ◌<◌, min}
 use mathlib.Core.Bool.{Bool, true, false, cond}
 use mathlib.Core.List.{List}
-use mathlib.Core.Path.{sym}
 use native.Mathlib.Omega.{arith}
 use borrow.Author.Tests.{lt-leb}
 use Rattle.lists.specs.Loops.{total_most}
@@ -20,8 +19,5 @@ short : (ws : List ℕ) (i : ℕ) → count_of ws i < 32 → broadcasts_of ws i 
 unfolding broadcasts_of broadcast_at
 short ws i h = let m = total_most (broadcast_at ws i) (min (count_of ws i) 48) (λ k g. bit (several (letter_at ws (place_of ws i k)).to)) in omega arith
 
-pub returns-then-count_of-lt32 : goal.returns-then-count_of-lt32
-returns-then-count_of-lt32 c = sym (lt-leb 32 _ (short _ _ (rw c.count_of.ensures at c.if-count_of-lt32.true)))
-
-pub returns : goal.returns
-returns c = rw (← c.broadcasts.ensures.0)
+pub returns-else-own-ge32 : goal.returns-else-own-ge32
+returns-else-own-ge32 c = rw (lt-leb 32 c.own.result c.if-own-ge32.false, lt-leb 32 _ (short c.args.memory.now c.args.part.card (rw c.own.ensures at c.if-own-ge32.false)))

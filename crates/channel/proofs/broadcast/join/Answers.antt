@@ -1,5 +1,5 @@
 use Rattle.channel.proofs.broadcast.join.Goals as goal
--- The answers name no place of `set_taken`, so that an edit which moves it is refused by what it breaks.
+-- The answers name no place of `set_own`, so that an edit which moves it is refused by what it breaks.
 use Prim.Native.Nat.{ℕ}
 use mathlib.Core.Bool.{Bool, true}
 use mathlib.Core.List.{List}
@@ -18,6 +18,6 @@ there_joined ws us vs i n p there a s t = simp (a, s, t)
 pub returns-then-there : goal.returns-then-there
 returns-then-there c = search (rules, there_joined)
 
-pub returns : goal.returns
+pub returns-else-there : goal.returns-else-there
 unfolding joined
-returns c = simp c.if-there.false (cc)
+returns-else-there c = simp c.if-there.false (cc)

@@ -15,15 +15,15 @@ unfolding sweeps
 sweeps_more i n k ws = turns_more (swept i n) k _
 
 pub loop-k-init : goal.loop-k-init
-loop-k-init c = (omega arith, omega arith, rw sweeps_zero, rw sweeps_zero)
+loop-k-init c = (omega arith, rw sweeps_zero, rw sweeps_zero)
 
 pub loop-k-preserved : goal.loop-k-preserved
 unfolding swept
 loop-k-preserved c = let v = c.loop-k.invariant in
-    (omega arith, omega arith, rw (sweeps_more, ← v.2, ← v.3) c.sweep-kept.ensures.memory, rw (sweeps_more, ← v.2, ← v.3) c.sweep-kept.ensures.kept.0)
+    (omega arith, rw (sweeps_more, ← v.1, ← v.2) c.sweep-kept.ensures.memory, rw (sweeps_more, ← v.1, ← v.2) c.sweep-kept.ensures.kept.0)
 
 pub returns : goal.returns
 unfolding released_words
 returns c = let v = c.loop-k.invariant in
-    let e : c.loop-k.k ≡ c.capped-held.result = omega arith in
-    rw (← c.held_of.ensures, ← c.capped-held.ensures, ← e, ← v.2, ← v.3) c.set_held.ensures
+    let e : c.loop-k.k ≡ c.min-k-end.result = omega arith in
+    rw (← c.own.ensures, ← c.min-k-end.ensures, ← e, ← v.1, ← v.2) c.set_own.ensures

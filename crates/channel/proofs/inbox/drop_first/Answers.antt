@@ -2,10 +2,10 @@ use borrow.Author.Tests.{eq-eqb, ne_eqb}
 use Rattle.channel.specs.Inbox.{popped}
 use Rattle.channel.proofs.inbox.drop_first.Goals as goal
 
-pub returns-then-count-eq0 : goal.returns-then-count-eq0
+pub returns-then-count-ne0 : goal.returns-then-count-ne0
 unfolding popped
-returns-then-count-eq0 c = simp (rw c.count_of-count.ensures at (eq-eqb _ _ c.if-count-eq0.true))
+returns-then-count-ne0 c = let n = c.own-count.ensures in simp (rw n at (ne_eqb _ _ c.if-count-ne0.true), c.set_own-then-count-ne0.ensures, c.set_own.ensures, c.past-next.ensures, n, c.start.ensures)
 
-pub returns : goal.returns
+pub returns-else-count-ne0 : goal.returns-else-count-ne0
 unfolding popped
-returns c = let n = c.count_of-count.ensures in simp (rw n at (ne_eqb _ _ c.if-count-eq0.false), c.set_count.ensures, c.set_head.ensures, c.wrapped.ensures.0, n, c.start.ensures.0)
+returns-else-count-ne0 c = simp (rw c.own-count.ensures at (eq-eqb _ _ c.if-count-ne0.false))

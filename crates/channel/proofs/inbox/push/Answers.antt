@@ -2,11 +2,11 @@ use borrow.Author.Tests.{lt-ltb, le-ltb}
 use Rattle.channel.specs.Inbox.{pushed}
 use Rattle.channel.proofs.inbox.push.Goals as goal
 
-pub returns-then-count-ge48 : goal.returns-then-count-ge48
+pub returns-then-count-lt48 : goal.returns-then-count-lt48
 unfolding pushed
-returns-then-count-ge48 c = simp (rw c.count_of-count.ensures at (le-ltb _ _ c.if-count-ge48.true))
+returns-then-count-lt48 c = let n = c.own-count.ensures in
+    simp (rw n at (lt-ltb _ _ c.if-count-lt48.true), c.set_own.ensures, c.store.ensures, c.place_of.ensures, n)
 
-pub returns : goal.returns
+pub returns-else-count-lt48 : goal.returns-else-count-lt48
 unfolding pushed
-returns c = let n = c.count_of-count.ensures in
-    simp (rw n at (lt-ltb _ _ c.if-count-ge48.false), c.set_count.ensures, c.store.ensures, c.place_of.ensures.0, n)
+returns-else-count-lt48 c = simp (rw c.own-count.ensures at (le-ltb _ _ c.if-count-lt48.false))

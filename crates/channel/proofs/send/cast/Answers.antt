@@ -30,6 +30,6 @@ pub returns : goal.returns
 unfolding cast_answer cast_memory is_done
 returns c = let z = sym c.near.ensures ∙ c.if-not-near.false in let y = sym c.fits.ensures ∙ c.if-not-fits.false in
     let x = rw c.made-last.ensures at (lt-ltb _ _ c.if-last-ge65535.false) in record {
-      memory = simp (z, y, x, c.store.ensures, c.repacked.ensures, c.broadcast_block.ensures.0, c.made-last.ensures);
+      memory = simp (z, y, x, c.store.ensures, c.repacked.ensures, c.broadcast_block.ensures, c.made-last.ensures);
       answer = simp (z, y, x);
     }

@@ -3,4 +3,4 @@ use Rattle.channel.proofs.send.near_at.Goals as goal
 
 pub returns : goal.returns
 unfolding near_at
-returns c = rw (← c.taken_of.ensures, ← c.made.ensures, ← c.wide-taken.ensures.0, ← c.wide-last.ensures.0)
+returns c = rw (← c.taken_of-taken.ensures, ← c.made-last.ensures)

@@ -17,5 +17,5 @@ sole_below to i e h =
     let b = below (bit_of to 0) (bit_of to 1) (bit_of to 2) (bit_of to 3) (bit_of to 4) (bit_of to 5) (bit_of to 6) (bit_of to 7) (eqb-true _ _ h) in
     subst (λ k. k < 8) (sym e) b
 
-pub returns : goal.returns
-returns c = let e = rw c.requires at c.sole.ensures in (e, sole_below _ _ e c.requires)
+pub invariant_of-result : goal.invariant_of-result
+invariant_of-result c = record { below = sole_below _ _ (rw c.requires at c.sole.ensures) c.requires }

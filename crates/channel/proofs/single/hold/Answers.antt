@@ -2,11 +2,11 @@ use borrow.Author.Tests.{le-ltb, lt-ltb}
 use Rattle.channel.specs.TakeSingle.{held_more}
 use Rattle.channel.proofs.single.hold.Goals as goal
 
-pub returns-then-held-ge16 : goal.returns-then-held-ge16
+pub returns-then-held-lt16 : goal.returns-then-held-lt16
 unfolding held_more
-returns-then-held-ge16 c = simp (rw c.held_of-held.ensures at (le-ltb _ _ c.if-held-ge16.true))
+returns-then-held-lt16 c = let n = c.own-held.ensures in
+    simp (rw n at (lt-ltb _ _ c.if-held-lt16.true), c.set_own.ensures, c.mark.ensures, c.held_block.ensures, n)
 
-pub returns : goal.returns
+pub returns-else-held-lt16 : goal.returns-else-held-lt16
 unfolding held_more
-returns c = let n = c.held_of-held.ensures in
-    simp (rw n at (lt-ltb _ _ c.if-held-ge16.false), c.set_held.ensures, c.mark.ensures, c.held_block.ensures.0, n)
+returns-else-held-lt16 c = simp (rw c.own-held.ensures at (le-ltb _ _ c.if-held-lt16.false))

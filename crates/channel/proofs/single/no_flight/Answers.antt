@@ -3,4 +3,4 @@ use Rattle.channel.proofs.single.no_flight.Goals as goal
 
 pub returns : goal.returns
 unfolding no_flight
-returns c = rw (← c.flight_block.ensures.0, ← c.kind_at.ensures)
+returns c = rw (← c.flight_block.ensures, ← c.kind_at.ensures)

@@ -10,7 +10,7 @@ returns c =
     let b = kept (kind_in p.word) (function_in p.word) p.value in
     rw (
       c.picked-2.ensures,
-      c.word_of-fields.ensures,
+      c.word_of.ensures,
       c.to_in.ensures,
       c.picked.ensures,
       c.function_in.ensures,

@@ -1,10 +1,7 @@
-use Rattle.std.proofs.Common.{◌≡◌, ◌-◌, ◌≤◌, true, length, get_or}
+use Rattle.std.proofs.Common.{◌≡◌, true, get_or}
 use Rattle.lists.specs.Every.{each}
 use Rattle.names.specs.Placement.{register_placed}
 use Rattle.names.proofs.placement.registers_placed.Given as goal
 
 abbrev pub invariant-loop-x : goal.invariant-loop-x
-invariant-loop-x l = (l.x ≤ length l.copies) × (each l.x (λ k. register_placed l.cards (get_or l.copies k 0) (get_or l.primaries k 0)) ≡ true)
-
-abbrev pub decreases-loop-x : goal.decreases-loop-x
-decreases-loop-x l = length l.copies - l.x
+invariant-loop-x l = each l.x (λ k. register_placed l.cards (get_or l.copies k 0) (get_or l.primaries k 0)) ≡ true

@@ -1,4 +1,3 @@
-use Prim.Native.Nat.{◌-◌, ◌≤◌}
 use mathlib.Core.Path.{◌≡◌}
 use lib.ListN.{length, take}
 use lib.Seq.{sets}
@@ -6,7 +5,4 @@ use Rattle.runfile.specs.AnswerFile.{value_bytes}
 use Rattle.runfile.proofs.answer_file.fill_values.Given as goal
 
 abbrev pub invariant-loop-k : goal.invariant-loop-k
-invariant-loop-k l = (l.k ≤ l.n) × (length l.part ≡ length l.initial.part) × (l.part ≡ sets l.initial.part 0 (value_bytes (take l.k l.values)))
-
-abbrev pub decreases-loop-k : goal.decreases-loop-k
-decreases-loop-k l = l.n - l.k
+invariant-loop-k l = (length l.part ≡ length l.initial.part) × (l.part ≡ sets l.initial.part 0 (value_bytes (take l.k l.values)))

@@ -1,77 +1,78 @@
 use Prim.Native.Nat.{◌+◌}
 use mathlib.Core.Path.{◌≡◌, refl, sym, ap, ◌∙◌}
 use mathlib.Core.Bool.{true}
-use mathlib.Core.List.{◌++◌}
 use native.Mathlib.Omega.{arith}
+use Rattle.std.proofs.Common.{rules, Err}
+use Rattle.runfile.specs.Head.{told}
 use lib.ListN.{length}
-use lib.Seq.{sets}
-use Rattle.names.specs.Placement.{tasks, registers}
-use Rattle.runfile.specs.Compose.{Tables, tables, tables_sized}
-use Rattle.runfile.proofs.ComposeNumbers.{sized_tables, said_unsized, said_refused, said_written, room_behind}
+use Rattle.names.specs.Placement.{Placement, tasks, registers}
+use Rattle.runfile.specs.Compose.{Tables, composed_of, with_steps, tables_sized}
+use Rattle.names.proofs.RefusalsMeaning.{refusals_meaning}
+use Rattle.runfile.proofs.ComposeNumbers.{sized_tables, said_refused, said_written, room_behind}
 use Rattle.runfile.proofs.composer.compose.Goals as goal
-
-pub returns-then-not-tables_sized : goal.returns-then-not-tables_sized
-returns-then-not-tables_sized c =
-    let a = c.args in
-    let t : Tables = tables a.cards a.homes.now a.copies.now a.primaries.now a.codes.now a.arguments.now in
-    let said = said_unsized t a.out.now (sym c.tables_sized.ensures ∙ c.if-not-tables_sized.true) in
-    record {
-      said = said.0;
-      output = said.1;
-    }
 
 pub overflow_cast-codes : goal.overflow_cast-codes
 overflow_cast-codes c =
     let a = c.args in
-    let t : Tables = tables a.cards a.homes.now a.copies.now a.primaries.now a.codes.now a.arguments.now in
+    let t : Tables = with_steps a.placement.now a.codes.now a.arguments.now in
     let s : tables_sized t ≡ true = sym c.tables_sized.ensures ∙ c.if-not-tables_sized.false in
     omega (arith, ((sized_tables t).0 s).3)
 
-pub overflow_add-homes-then-begun-eq0 : goal.overflow_add-homes-then-begun-eq0
-overflow_add-homes-then-begun-eq0 c =
+pub returns-in_err-length-clause-said : goal.returns-in_err-length-clause-said
+returns-in_err-length-clause-said c =
     let a = c.args in
-    let t : Tables = tables a.cards a.homes.now a.copies.now a.primaries.now a.codes.now a.arguments.now in
+    let t : Tables = with_steps a.placement.now a.codes.now a.arguments.now in
     let s : tables_sized t ≡ true = sym c.tables_sized.ensures ∙ c.if-not-tables_sized.false in
-    let h = (sized_tables t).0 s in
+    let e = c.in_err-length.ensures.said in
+    let said = (said_refused t a.out.now s (λ z. (refusals_meaning.not_taken c.in_err-length.field-0.0).0 (ap (λ r. r.refusal) e ∙ z))).0 in
+    let w : told (Err c.in_err-length.field-0.0) ≡ composed_of t a.out.now = e ∙ said in
+    search rules
+
+pub returns-in_err-length-clause-output : goal.returns-in_err-length-clause-output
+returns-in_err-length-clause-output c =
+    let a = c.args in
+    let t : Tables = with_steps a.placement.now a.codes.now a.arguments.now in
+    let s : tables_sized t ≡ true = sym c.tables_sized.ensures ∙ c.if-not-tables_sized.false in
+    c.in_err-length.ensures.output ∙ (said_refused t a.out.now s (λ z. (refusals_meaning.not_taken c.in_err-length.field-0.0).0 (ap (λ r. r.refusal) c.in_err-length.ensures.said ∙ z))).1
+
+pub overflow_add-placement-inside-2 : goal.overflow_add-placement-inside-2
+overflow_add-placement-inside-2 c =
+    let a = c.args in
+    let t : Tables = with_steps a.placement.now a.codes.now a.arguments.now in
+    let s : tables_sized t ≡ true = sym c.tables_sized.ensures ∙ c.if-not-tables_sized.false in
+    let h = rw (← c.placement.view_is) at ((sized_tables t).0 s) in
     omega (arith, h.1.1, h.2.1, h.4)
 
-pub overflow_add-homes-then-begun-eq0-2 : goal.overflow_add-homes-then-begun-eq0-2
-overflow_add-homes-then-begun-eq0-2 c =
+pub overflow_add-placement-inside-3 : goal.overflow_add-placement-inside-3
+overflow_add-placement-inside-3 c =
     let a = c.args in
-    let t : Tables = tables a.cards a.homes.now a.copies.now a.primaries.now a.codes.now a.arguments.now in
+    let t : Tables = with_steps a.placement.now a.codes.now a.arguments.now in
     let s : tables_sized t ≡ true = sym c.tables_sized.ensures ∙ c.if-not-tables_sized.false in
-    let h = (sized_tables t).0 s in
+    let h = rw (← c.placement.view_is) at ((sized_tables t).0 s) in
     omega (arith, h.1.1, h.2.1, h.4)
 
 pub put_steps-requires : goal.put_steps-requires
 put_steps-requires c =
     let a = c.args in
-    let t : Tables = tables a.cards a.homes.now a.copies.now a.primaries.now a.codes.now a.arguments.now in
+    let t : Tables = with_steps a.placement.now a.codes.now a.arguments.now in
     let s : tables_sized t ≡ true = sym c.tables_sized.ensures ∙ c.if-not-tables_sized.false in
-    let none = sym (ap (λ r. r.refusal) c.head-begun.ensures.said) ∙ c.if-begun-eq0.true in
-    omega (arith, room_behind t a.out.now s none, c.head-begun.auto.out)
+    let none = sym (ap (λ r. r.refusal) c.in_ok-length.ensures.said) in
+    let room = rw (← c.placement.view_is) at (room_behind t a.out.now s none) in
+    omega (arith, room, c.head.auto.out)
 
-pub returns-then-begun-eq0 : goal.returns-then-begun-eq0
-returns-then-begun-eq0 c =
+pub returns-clause-said : goal.returns-clause-said
+returns-clause-said c =
     let a = c.args in
-    let t : Tables = tables a.cards a.homes.now a.copies.now a.primaries.now a.codes.now a.arguments.now in
+    let t : Tables = with_steps a.placement.now a.codes.now a.arguments.now in
     let s : tables_sized t ≡ true = sym c.tables_sized.ensures ∙ c.if-not-tables_sized.false in
-    let h = c.head-begun in
-    let none = sym (ap (λ r. r.refusal) h.ensures.said) ∙ c.if-begun-eq0.true in
-    let said = said_written t a.out.now s none _ refl in
-    record {
-      said = h.ensures.said ∙ said.0;
-      output = c.put_steps.ensures ∙ ap (λ o. sets o (5 + tasks t.placement + registers t.placement + length t.placement.primaries) (t.codes ++ t.arguments)) h.ensures.output ∙ said.1;
-    }
+    let h = c.in_ok-length.ensures in
+    h.said ∙ (said_written t a.out.now s (sym (ap (λ r. r.refusal) h.said)) _ refl).0
 
-pub returns-else-begun-eq0 : goal.returns-else-begun-eq0
-returns-else-begun-eq0 c =
+pub returns-clause-output : goal.returns-clause-output
+returns-clause-output c =
     let a = c.args in
-    let t : Tables = tables a.cards a.homes.now a.copies.now a.primaries.now a.codes.now a.arguments.now in
+    let t : Tables = with_steps a.placement.now a.codes.now a.arguments.now in
     let s : tables_sized t ≡ true = sym c.tables_sized.ensures ∙ c.if-not-tables_sized.false in
-    let h = c.head-begun in
-    let said = said_refused t a.out.now s (λ e. c.if-begun-eq0.false (ap (λ r. r.refusal) h.ensures.said ∙ e)) in
-    record {
-      said = h.ensures.said ∙ said.0;
-      output = h.ensures.output ∙ said.1;
-    }
+    let h = c.in_ok-length.ensures in
+    let at = ap (λ (p : Placement). 5 + tasks p + registers p + length p.primaries) c.placement.view_is in
+    rw (c.put_steps.ensures, h.output) (said_written t a.out.now s (sym (ap (λ r. r.refusal) h.said)) _ at).1

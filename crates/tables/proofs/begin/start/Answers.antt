@@ -1,14 +1,10 @@
-use Prim.Native.Nat.{ℕ, ◌≤◌, ◌<◌}
-use mathlib.Core.Bool.{Bool, true, false, cond, ◌&&◌}
-use native.Mathlib.Omega.{arith}
-use lib.Dec.{leb}
+use Rattle.std.proofs.Common.{ℕ, ◌≡◌, ◌≤◌, Bool, true, false, cond, ◌&&◌, nat_le, refl, sym, arith, rules}
+use borrow.Author.Tests.{leb-true, eq-eqb, ne_eqb}
 use Rattle.lists.specs.Tests.{and_fst, and_snd}
 use Rattle.claims.proofs.CardSets.{tasks_low}
 use Rattle.names.specs.Placement.{Placement, tasks, registers, sized, sizes_in_range, placed, placement_refusal}
-use borrow.Author.Tests.{leb-true, eq-eqb, ne_eqb}
-use mathlib.Core.Path.{◌≡◌, refl, sym, ◌∙◌}
 use Rattle.tables.specs.Start.{start_words, start_channel, start_registers}
-use borrow.Author.Rules.{rules}
+use Rattle.names.proofs.RefusalsMeaning.{refusals_meaning}
 use Rattle.tables.proofs.begin.start.Goals as goal
 
 -- what refusal 3 leaves
@@ -24,21 +20,28 @@ registers_low : (p : Placement) → placement_refusal p ≡ 0 → registers p �
 unfolding placement_refusal sized sizes_in_range
 registers_low p ok =
     leb-true _ _
-    (fourth (leb 1 p.cards) (leb p.cards 8) (leb 1 (registers p)) (leb (registers p) 32) (leb 1 (tasks p)) (leb (tasks p) 16) _ (sizes (sized p) (placed p) ok))
+    (fourth (nat_le 1 p.cards) (nat_le p.cards 8) (nat_le 1 (registers p)) (nat_le (registers p) 32) (nat_le 1 (tasks p)) (nat_le (tasks p) 16) _ (sizes (sized p) (placed p) ok))
 
-low : (p : Placement) → placement_refusal p ≡ 0 → (tasks p < 17) × (registers p < 33)
-low p ok = let a = tasks_low p ok in let b = registers_low p ok in (omega arith, omega arith)
+pub returns-in_err-judge-clause-registers : goal.returns-in_err-judge-clause-registers
+unfolding start_registers
+returns-in_err-judge-clause-registers c = simp (ne_eqb _ _ (rw c.in_err-judge.ensures at (refusals_meaning.not_taken c.in_err-judge.field-0.0).0))
 
-pub returns-then-number-ne0 : goal.returns-then-number-ne0
-unfolding start_channel start_registers
-returns-then-number-ne0 c = let z = rw c.refusal-number.ensures at (ne_eqb _ _ c.if-number-ne0.true) in record { registers = simp z; channel = simp z; number = c.refusal-number.ensures }
+pub returns-in_err-judge-clause-channel : goal.returns-in_err-judge-clause-channel
+unfolding start_channel
+returns-in_err-judge-clause-channel c = simp (ne_eqb _ _ (rw c.in_err-judge.ensures at (refusals_meaning.not_taken c.in_err-judge.field-0.0).0))
 
-pub overflow_cast-homes : goal.overflow_cast-homes
-overflow_cast-homes c = let h = (low _ (sym c.refusal-number.ensures ∙ c.if-number-ne0.false)).0 in search rules
+pub overflow_cast-tasks : goal.overflow_cast-tasks
+overflow_cast-tasks c = let h = tasks_low c.args.placement.now (sym c.in_ok-judge.ensures) in search rules
 
-pub overflow_cast-copies : goal.overflow_cast-copies
-overflow_cast-copies c = let h = (low _ (sym c.refusal-number.ensures ∙ c.if-number-ne0.false)).1 in search rules
+pub overflow_cast-copied : goal.overflow_cast-copied
+overflow_cast-copied c = let h = registers_low c.args.placement.now (sym c.in_ok-judge.ensures) in search rules
 
-pub returns : goal.returns
-unfolding start_channel start_registers start_words
-returns c = let z = rw c.refusal-number.ensures at (eq-eqb _ _ c.if-number-ne0.false) in record { registers = simp (z, c.place_registers.ensures, c.place_tasks.ensures); channel = simp z c.begin.ensures.memory; number = c.refusal-number.ensures }
+pub returns-clause-registers : goal.returns-clause-registers
+unfolding start_registers start_words
+returns-clause-registers c =
+    simp (eq-eqb _ _ (sym c.in_ok-judge.ensures)) (rw (← c.placement.view_is) (simp (c.place_registers.ensures, c.place_tasks.ensures)))
+
+pub returns-clause-channel : goal.returns-clause-channel
+unfolding start_channel
+returns-clause-channel c =
+    simp (eq-eqb _ _ (sym c.in_ok-judge.ensures)) (rw (← c.placement.view_is) c.begin.ensures.memory)

@@ -31,6 +31,6 @@ returns c =
       c.picked-2.ensures,
       c.picked-3.ensures,
       c.picked-4.ensures,
-      c.word_of-ended.ensures,
+      c.word-ended.ensures,
       c.home_in.ensures.0,
     ))

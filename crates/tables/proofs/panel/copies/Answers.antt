@@ -12,7 +12,6 @@ use Rattle.names.specs.CardSet.{member_of}
 use Rattle.channel.specs.Layout.{cards_of, registers_of}
 use Rattle.tables.specs.Layout.{side_by_side, holds}
 use Rattle.tables.specs.Panel.{value_shown_at, copies_shown_at}
-use borrow.Author.Rules.{rules}
 use Rattle.tables.proofs.panel.copies.Goals as goal
 
 -- three tests at once, or one after the other
@@ -35,12 +34,10 @@ held_is rs cs x s k h =
     rw e (in_turn (ltb x.0 (registers_of cs)) (ltb k (cards_of cs)) (member_of s k) (get_or rs (side_by_side k x.0) 0))
 
 pub loop-i-init : goal.loop-i-init
-loop-i-init c = (search rules, filled_none _ _)
+loop-i-init c = filled_none _ _
 
 pub loop-i-preserved : goal.loop-i-preserved
-loop-i-preserved c =
-    let l = c.loop-i in
-    (search rules, rw (l.invariant.1, c.picked.ensures, c.member.ensures) (sym (filled_more _ _ l.i)))
+loop-i-preserved c = rw (c.loop-i.invariant, c.picked.ensures, c.member.ensures) (sym (filled_more _ _ c.loop-i.i))
 
 pub returns : goal.returns
 unfolding copies_shown_at holds
@@ -51,5 +48,5 @@ returns c =
     let holding = c.holders-holding.ensures in
     let there = c.registers.ensures.0 in
     let cards = c.cards-cards.ensures.0 in
-    rw (e, place, holding, there, cards) at c.loop-i.invariant.1 ∙ filled_whole _ _ 8 (length-replicate {A = ℕ} 8 0)
+    rw (e, place, holding, there, cards) at c.loop-i.invariant ∙ filled_whole _ _ 8 (length-replicate {A = ℕ} 8 0)
     ∙ listing_cong _ _ 8 (λ k h. held_is a.registers.now a.channel.now a.register _ k h)

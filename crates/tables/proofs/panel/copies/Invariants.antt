@@ -1,4 +1,4 @@
-use Prim.Native.Nat.{◌+◌, ◌-◌, ◌≤◌}
+use Prim.Native.Nat.{◌+◌}
 use mathlib.Core.Path.{◌≡◌}
 use mathlib.Core.Bool.{cond, ◌&&◌}
 use lib.Dec.{ltb}
@@ -9,7 +9,4 @@ use Rattle.tables.proofs.panel.copies.Given as goal
 
 abbrev pub invariant-loop-i : goal.invariant-loop-i
 invariant-loop-i l =
-    (l.i ≤ 8) × (l.out ≡ filled (λ k. cond (l.there && ltb k l.cards && member_of l.holding k) (get_or l.registers (l.first + k) 0) 0) l.i (replicate 8 0))
-
-abbrev pub decreases-loop-i : goal.decreases-loop-i
-decreases-loop-i l = 8 - l.i
+    l.out ≡ filled (λ k. cond (l.there && ltb k l.cards && member_of l.holding k) (get_or l.registers (l.first + k) 0) 0) l.i (replicate 8 0)

@@ -1,4 +1,0 @@
-use Rattle.commands.proofs.steps.task_in.Goals as goal
-
-pub returns : goal.returns
-returns c = rw (← c.byte.ensures.0)
