@@ -4,28 +4,29 @@ ghost use Rattle.channel.specs.TakeBroadcast.{ready_at, releasable_of, broadcast
 
 use super::inbox::push;
 use super::layout::{
-    Part, WORDS, Word, broadcast_block, made, own, part_of, place_of, set_own, taken_of,
+    Part, WORDS, Word, broadcast_block, made, own, part_of, place_of, set_own, set_taken, taken_of,
 };
 use super::letters::{load, mark, tag_at, to_at};
-use lists::loops::count;
 use names::refusals::{Refusal, Taken};
 use names::{BroadcastNumber, Card, Packet};
 
 // How many held messages of a card wait for broadcast n.
 fn releasable(memory: &[u32; WORDS], part: Part, n: BroadcastNumber) -> u32
-    ensures { (result ≡ releasable_of memory.now part.card n.0) × (result ≤ 16) }
+    ensures { (result ≡ releasable_of memory.now part.card.0 n.0) × (result ≤ 16) }
 {
-    count(
-        own(memory, part, Word::Held).min(16),
-        |k| tag_at(memory, part.held_block(k)) == n,
+    (0..own(memory, part, Word::Held).min(16)).fold(
+        0,
+        |sum, k|
+            requires { (sum < 16) × (k < 16) }
+        { sum + u32::from(tag_at(memory, part.held_block(k)) == n) },
     )
 }
 
 // One held message: it joins the inbox where its tag is n, and else it moves down to place `kept`.
 fn sweep(memory: &mut [u32; WORDS], part: Part, n: BroadcastNumber, k: u32, kept: u32) -> u32
     requires { (k < 16) × (kept ≤ k) }
-    ensures memory { memory.new ≡ swept_words part.card n.0 k memory.old kept }
-    ensures kept { (result ≡ swept_kept part.card n.0 k memory.old kept) × (result ≤ kept + 1) }
+    ensures memory { memory.new ≡ swept_words part.card.0 n.0 k memory.old kept }
+    ensures kept { (result ≡ swept_kept part.card.0 n.0 k memory.old kept) × (result ≤ kept + 1) }
 {
     let tagged = part.held_block(k);
     let packet = load(memory, tagged.block);
@@ -41,7 +42,7 @@ fn sweep(memory: &mut [u32; WORDS], part: Part, n: BroadcastNumber, k: u32, kept
 
 // The held messages of a card with tag n join its inbox in order, and the others close up.
 fn release(memory: &mut [u32; WORDS], part: Part, n: BroadcastNumber)
-    ensures { memory.new ≡ released_words memory.old part.card n.0 }
+    ensures { memory.new ≡ released_words memory.old part.card.0 n.0 }
 {
     let mut kept = 0;
     for k in 0..own(memory, part, Word::Held).min(16) {
@@ -52,24 +53,26 @@ fn release(memory: &mut [u32; WORDS], part: Part, n: BroadcastNumber)
 
 // How many broadcasts stand in a card's inbox.
 fn broadcasts(memory: &[u32; WORDS], part: Part) -> u32
-    ensures { (result ≡ broadcasts_of memory.now part.card) × (result ≤ 48) }
+    ensures { (result ≡ broadcasts_of memory.now part.card.0) × (result ≤ 48) }
 {
-    count(
-        own(memory, part, Word::Count).min(48),
-        |k| names::several(to_at(memory, place_of(memory, part, k))),
+    (0..own(memory, part, Word::Count).min(48)).fold(
+        0,
+        |sum, k|
+            requires { (sum < 48) × (k < 48) }
+        { sum + u32::from(names::several(to_at(memory, place_of(memory, part, k)))) },
     )
 }
 
 // Whether a card's inbox has 32 broadcasts. A shorter inbox is not counted through.
 fn crowded(memory: &[u32; WORDS], part: Part) -> bool
-    ensures { result ≡ leb 32 (broadcasts_of memory.now part.card) }
+    ensures { result ≡ leb 32 (broadcasts_of memory.now part.card.0) }
 {
     32 <= own(memory, part, Word::Count) && 32 <= broadcasts(memory, part)
 }
 
 // A broadcast and its number reach a card, a destination: it joins the inbox, and then what waited for it.
 fn arrive(memory: &mut [u32; WORDS], part: Part, number: BroadcastNumber, broadcast: Packet)
-    ensures { memory.new ≡ arrived memory.old part.card number.0 broadcast }
+    ensures { memory.new ≡ arrived memory.old part.card.0 number.0 broadcast }
 {
     push(memory, part, broadcast);
     release(memory, part, number);
@@ -77,9 +80,9 @@ fn arrive(memory: &mut [u32; WORDS], part: Part, number: BroadcastNumber, broadc
 
 // A card takes broadcast n, whose packet is `packet`.
 fn join(memory: &mut [u32; WORDS], part: Part, n: BroadcastNumber, packet: Packet, there: bool)
-    ensures { memory.new ≡ joined memory.old part.card n.0 packet there }
+    ensures { memory.new ≡ joined memory.old part.card.0 n.0 packet there }
 {
-    set_own(memory, part, Word::Taken, n.0);
+    set_taken(memory, part, n);
     if there {
         arrive(memory, part, n, packet);
     } else {
@@ -102,7 +105,7 @@ fn room(
     n: BroadcastNumber,
     there: bool,
 ) -> Result<Taken, Refusal>
-    ensures { result ≡ room_answer memory.now part.card n.0 there }
+    ensures { result ≡ room_answer memory.now part.card.0 n.0 there }
 {
     if there && crowded(memory, part) {
         return Err(Refusal::Crowded);
@@ -119,12 +122,12 @@ fn room(
 
 // A card takes broadcast n, where there is room.
 fn take_next(memory: &mut [u32; WORDS], part: Part, n: BroadcastNumber) -> Result<Taken, Refusal>
-    ensures memory { memory.new ≡ next_memory memory.old part.card n.0 }
-    ensures answer { result ≡ next_answer memory.old part.card n.0 }
+    ensures memory { memory.new ≡ next_memory memory.old part.card.0 n.0 }
+    ensures answer { result ≡ next_answer memory.old part.card.0 n.0 }
 {
     let block = broadcast_block(n);
     let packet = load(memory, block);
-    let there = names::member(to_at(memory, block), Card(part.card));
+    let there = names::member(to_at(memory, block), part.card);
     let taken = room(memory, part, n, there)?;
     join(memory, part, n, packet, there);
     Ok(taken)

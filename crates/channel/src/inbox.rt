@@ -9,7 +9,7 @@ use names::{Card, Letter, Message, Packet};
 
 // One packet more at the end of a card's inbox; nothing changes where there is no room.
 pub(crate) fn push(memory: &mut [u32; WORDS], part: Part, packet: Packet)
-    ensures { memory.new ≡ pushed memory.old part.card packet }
+    ensures { memory.new ≡ pushed memory.old part.card.0 packet }
 {
     let count = own(memory, part, Word::Count);
     if count < 48 {
@@ -20,7 +20,7 @@ pub(crate) fn push(memory: &mut [u32; WORDS], part: Part, packet: Packet)
 
 // The message of the first letter of a card's inbox.
 fn first(memory: &[u32; WORDS], part: Part) -> Result<Message, Refusal>
-    ensures { result ≡ got_of memory.now part.card }
+    ensures { result ≡ got_of memory.now part.card.0 }
 {
     if own(memory, part, Word::Count) == 0 {
         return Err(Refusal::NothingToDeliver);
@@ -31,7 +31,7 @@ fn first(memory: &[u32; WORDS], part: Part) -> Result<Message, Refusal>
 
 // The first letter of a card's inbox leaves it, where there is one.
 fn drop_first(memory: &mut [u32; WORDS], part: Part)
-    ensures { memory.new ≡ popped memory.old part.card }
+    ensures { memory.new ≡ popped memory.old part.card.0 }
 {
     let count = own(memory, part, Word::Count);
     if count != 0 {

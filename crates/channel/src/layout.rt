@@ -1,6 +1,6 @@
 // Where things lie in the channel's memory, its sizes, and its start.
 ghost use Rattle.std.specs.Prelude.{◌≡◌, ◌+◌, ◌<◌, ◌≤◌, ◌%◌, min, get_or, set, MatchResult};
-ghost use Rattle.channel.specs.Layout.{channel_words, cards_of, tasks_of, registers_of, made_of, taken_of, head_of, own_word, inbox_block, place_of, held_block, flight_block, broadcast_block, taken_by};
+ghost use Rattle.channel.specs.Layout.{channel_words, cards_of, tasks_of, registers_of, made_of, taken_of, head_of, own_word, taken_word, inbox_block, place_of, held_block, flight_block, broadcast_block, taken_by};
 ghost use Rattle.names.specs.declared.refusals.Refusal.TheVariants.{NoCard};
 ghost use Rattle.channel.specs.Letters.{limits_of};
 ghost use Rattle.channel.specs.Begin.{sizes_fit, begin_answer, begin_memory};
@@ -8,7 +8,7 @@ ghost use Rattle.channel.specs.Begin.{sizes_fit, begin_answer, begin_memory};
 use crate::Limits;
 use names::placement::sizes_in_range;
 use names::refusals::{Refusal, Taken};
-use names::{BroadcastNumber, Card};
+use names::{BroadcastNumber, Card, Task};
 
 // Words of the whole memory.
 pub(crate) const CARDS: usize = 0;
@@ -87,26 +87,26 @@ pub fn made(memory: &[u32; WORDS]) -> BroadcastNumber
 // A card that has a part of the memory.
 #[derive(Clone, Copy)]
 pub(crate) struct Part {
-    pub(crate) card: u32,
-    ghost below: { card < 8 },
+    pub(crate) card: Card,
+    ghost below: { card.0 < 8 },
 }
 
 impl Part {
     // Where the packet at a place of a card's inbox lies.
     pub(crate) fn inbox_block(self, place: Place) -> Block
-        ensures { result.at ≡ inbox_block self.card place.k }
+        ensures { result.at ≡ inbox_block self.card.0 place.k }
     {
         Block {
-            at: INBOX + self.card as usize * PART + place.k as usize * 2,
+            at: INBOX + self.card.0 as usize * PART + place.k as usize * 2,
         }
     }
 
     // Where place k of what is held for a card lies.
     pub(crate) fn held_block(self, k: u32) -> Tagged
         requires { k < 16 }
-        ensures { result.block.at ≡ held_block self.card k }
+        ensures { result.block.at ≡ held_block self.card.0 k }
     {
-        let at = KEPT + self.card as usize * PART + k as usize * 3;
+        let at = KEPT + self.card.0 as usize * PART + k as usize * 3;
         Tagged {
             block: Block { at },
         }
@@ -115,27 +115,27 @@ impl Part {
 
 // The part of a card, which the sizes must have.
 pub(crate) fn part_of(memory: &[u32; WORDS], card: Card) -> Result<Part, Refusal>
-    ensures { MatchResult result (λ part. (part.card ≡ card.0) × (card.0 < cards_of memory.now)) (λ refusal. (refusal ≡ NoCard) × (cards_of memory.now ≤ card.0)) }
+    ensures { MatchResult result (λ part. (part.card ≡ card) × (card.0 < cards_of memory.now)) (λ refusal. (refusal ≡ NoCard) × (cards_of memory.now ≤ card.0)) }
 {
     if cards(memory) <= card.0 {
         return Err(Refusal::NoCard);
     }
-    Ok(Part { card: card.0 })
+    Ok(Part { card })
 }
 
 // A task that has a place for a message in flight.
 #[derive(Clone, Copy)]
 pub(crate) struct Slot {
-    pub(crate) task: u32,
-    ghost below: { task < 16 },
+    pub(crate) task: Task,
+    ghost below: { task.0 < 16 },
 }
 
 impl Slot {
     // Where a task's message in flight lies.
     pub(crate) fn flight_block(self) -> Tagged
-        ensures { result.block.at ≡ flight_block self.task }
+        ensures { result.block.at ≡ flight_block self.task.0 }
     {
-        let at = FLIGHT + self.task as usize * 3;
+        let at = FLIGHT + self.task.0 as usize * 3;
         Tagged {
             block: Block { at },
         }
@@ -189,27 +189,33 @@ pub(crate) enum Word {
 
 // One of a card's own words.
 pub(crate) fn own(memory: &[u32; WORDS], part: Part, word: Word) -> u32
-    ensures { result ≡ get_or memory.now (own_word word part.card) 0 }
+    ensures { result ≡ get_or memory.now (own_word word part.card.0) 0 }
 {
-    memory[FIRST + part.card as usize * PART + word as usize]
+    memory[FIRST + part.card.0 as usize * PART + word as usize]
 }
 
 pub(crate) fn set_own(memory: &mut [u32; WORDS], part: Part, word: Word, x: u32)
-    ensures { memory.new ≡ set memory.old (own_word word part.card) x }
+    ensures { memory.new ≡ set memory.old (own_word word part.card.0) x }
 {
-    memory[FIRST + part.card as usize * PART + word as usize] = x;
+    memory[FIRST + part.card.0 as usize * PART + word as usize] = x;
 }
 
 // How many broadcasts a present card has taken.
 pub(crate) fn taken_of(memory: &[u32; WORDS], part: Part) -> BroadcastNumber
-    ensures { result.0 ≡ taken_of memory.now part.card }
+    ensures { result.0 ≡ taken_of memory.now part.card.0 }
 {
     BroadcastNumber(own(memory, part, Word::Taken))
 }
 
+pub(crate) fn set_taken(memory: &mut [u32; WORDS], part: Part, n: BroadcastNumber)
+    ensures { memory.new ≡ set memory.old (taken_word part.card.0) n.0 }
+{
+    set_own(memory, part, Word::Taken, n.0);
+}
+
 // Where an inbox starts in its ring. In a well-sized memory no start is past the ring's end, so nothing is divided.
 pub(crate) fn start(memory: &[u32; WORDS], part: Part) -> Place
-    ensures { result.k ≡ head_of memory.now part.card % 48 }
+    ensures { result.k ≡ head_of memory.now part.card.0 % 48 }
 {
     let head = own(memory, part, Word::Head);
     if head < 48 {
@@ -222,7 +228,7 @@ pub(crate) fn start(memory: &[u32; WORDS], part: Part) -> Place
 // Where place k of a card's inbox lies, oldest first.
 pub(crate) fn place_of(memory: &[u32; WORDS], part: Part, k: u32) -> Block
     requires { k < 48 }
-    ensures { result.at ≡ place_of memory.now part.card k }
+    ensures { result.at ≡ place_of memory.now part.card.0 k }
 {
     part.inbox_block(start(memory, part).past(k))
 }

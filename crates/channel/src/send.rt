@@ -8,14 +8,13 @@ use super::layout::{
 };
 use super::letters::{fits, mark, store};
 use super::single::no_flight;
-use lists::loops::each;
 use names::letters::{repacked, task_in, to_in};
 use names::refusals::{Refusal, Taken};
 use names::{BroadcastNumber, Card, Packet};
 
 // Whether one broadcast more leaves a card not too far behind.
 fn near_at(memory: &[u32; WORDS], part: Part) -> bool
-    ensures { result ≡ near_at memory.now part.card }
+    ensures { result ≡ near_at memory.now part.card.0 }
 {
     let taken = taken_of(memory, part).0 as usize;
     let last = made(memory).0 as usize;
@@ -23,15 +22,16 @@ fn near_at(memory: &[u32; WORDS], part: Part) -> bool
 }
 
 // Whether one broadcast more leaves no card too far behind.
+// Kept: a loop that returns. With `all` a step that is refused here takes a fifth longer (DESIGN-PASS).
 fn near(memory: &[u32; WORDS]) -> bool
     ensures { result ≡ near memory.now }
 {
-    each(
-        cards(memory),
-        |i|
-            requires { i < 8 }
-        { near_at(memory, Part { card: i }) },
-    )
+    for i in 0..cards(memory) {
+        if !near_at(memory, Part { card: Card(i) }) {
+            return false;
+        }
+    }
+    true
 }
 
 // A letter to more cards than one becomes the next broadcast.
@@ -57,14 +57,14 @@ fn cast(memory: &mut [u32; WORDS], packet: Packet) -> Result<Taken, Refusal>
 
 // A letter to one card is in flight, tagged with the number of broadcasts that the card, which sends it, has taken.
 fn fly(memory: &mut [u32; WORDS], part: Part, packet: Packet) -> Result<Taken, Refusal>
-    ensures memory { memory.new ≡ fly_memory memory.old part.card (letter_of packet) }
+    ensures memory { memory.new ≡ fly_memory memory.old part.card.0 (letter_of packet) }
     ensures answer { result ≡ fly_answer memory.old (letter_of packet) }
 {
     if !fits(memory, packet) {
         return Err(Refusal::IllSized);
     }
     let slot = Slot {
-        task: task_in(packet.word).0,
+        task: task_in(packet.word),
     };
     if !no_flight(memory, slot) {
         return Err(Refusal::IllSized);

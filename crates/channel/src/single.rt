@@ -11,7 +11,7 @@ use names::{BroadcastNumber, Packet, Task};
 
 // Whether a task has nothing in flight.
 pub(crate) fn no_flight(memory: &[u32; WORDS], slot: Slot) -> bool
-    ensures { result ≡ no_flight memory.now slot.task }
+    ensures { result ≡ no_flight memory.now slot.task.0 }
 {
     kind_at(memory, slot.flight_block().block) == 0
 }
@@ -19,23 +19,23 @@ pub(crate) fn no_flight(memory: &[u32; WORDS], slot: Slot) -> bool
 // The one destination of a message.
 fn destination(to: u32) -> Part
     requires { single to ≡ true }
-    ensures { result.card ≡ sole_of to }
+    ensures { result.card.0 ≡ sole_of to }
 {
     Part {
-        card: names::sole(to).0,
+        card: names::sole(to),
     }
 }
 
 // Whether a message with this tag joins a card's inbox, and is not held.
 fn joins_at(memory: &[u32; WORDS], part: Part, tag: BroadcastNumber) -> bool
-    ensures { result ≡ joins_at memory.now part.card tag.0 }
+    ensures { result ≡ joins_at memory.now part.card.0 tag.0 }
 {
     tag <= taken_of(memory, part)
 }
 
 // One packet more among those held for a card; nothing changes where there is no room.
 fn hold(memory: &mut [u32; WORDS], part: Part, packet: Packet, tag: BroadcastNumber)
-    ensures { memory.new ≡ held_more memory.old part.card packet tag.0 }
+    ensures { memory.new ≡ held_more memory.old part.card.0 packet tag.0 }
 {
     let held = own(memory, part, Word::Held);
     if held < 16 {
@@ -53,7 +53,7 @@ fn land(
     tag: BroadcastNumber,
     joins: bool,
 )
-    ensures { memory.new ≡ landed memory.old slot.task part.card packet tag.0 joins }
+    ensures { memory.new ≡ landed memory.old slot.task.0 part.card.0 packet tag.0 joins }
 {
     let block = slot.flight_block().block;
     memory[block.at] = 0;
@@ -66,7 +66,7 @@ fn land(
 
 // Whether a card has room for a message, and what becomes of it there: it joins the inbox, or is held.
 fn may_land(memory: &[u32; WORDS], part: Part, joins: bool) -> Result<Taken, Refusal>
-    ensures { result ≡ land_answer memory.now part.card joins }
+    ensures { result ≡ land_answer memory.now part.card.0 joins }
 {
     match joins {
         true if own(memory, part, Word::Count) < 48 => Ok(Taken::Done),
@@ -77,8 +77,8 @@ fn may_land(memory: &[u32; WORDS], part: Part, joins: bool) -> Result<Taken, Ref
 
 // A task's message in flight reaches its destination, where there is room.
 fn reach(memory: &mut [u32; WORDS], slot: Slot) -> Result<Taken, Refusal>
-    ensures memory { memory.new ≡ reach_memory memory.old slot.task }
-    ensures answer { result ≡ reach_answer memory.old slot.task }
+    ensures memory { memory.new ≡ reach_memory memory.old slot.task.0 }
+    ensures answer { result ≡ reach_answer memory.old slot.task.0 }
 {
     let tagged = slot.flight_block();
     let packet = load(memory, tagged.block);
@@ -102,7 +102,7 @@ pub fn take_single(memory: &mut [u32; WORDS], task: Task) -> Result<Taken, Refus
     if tasks(memory) <= task.0 {
         return Err(Refusal::NoTask);
     }
-    let slot = Slot { task: task.0 };
+    let slot = Slot { task };
     if no_flight(memory, slot) {
         return Err(Refusal::NoneInFlight);
     }

@@ -1,5 +1,5 @@
-// The check of the whole memory that refusal 6 for the state asks for. Tests are joined by `&`, with no early return: a well-sized memory meets
-// them all, and nothing waits for one of them.
+// The check of the whole memory that refusal 6 for the state asks for. Tests are joined by `&`, with no early return but among flight slots, which
+// are mostly empty: a well-sized memory meets them all, and nothing waits for one of them.
 ghost use Rattle.std.specs.Prelude.{◌≡◌, ◌+◌, ◌<◌, ◌≤◌, min, cond, ltb};
 ghost use Rattle.lists.specs.Every.{each};
 ghost use Rattle.automaton.specs.MostBehind.{most_behind};
@@ -14,8 +14,7 @@ use super::layout::{
 use super::letters::{tag_at, to_at, word_fits};
 use super::single::no_flight;
 use crate::Limits;
-use lists::loops::each;
-use names::BroadcastNumber;
+use names::{BroadcastNumber, Card, Task};
 
 // A memory under this check, and its limits, which are read once.
 #[derive(Drop)]
@@ -42,18 +41,21 @@ impl<'a> Checked<'a> {
 
     // Whether a card's part is in order.
     fn card_fits(&self, part: Part) -> bool
-        ensures { result ≡ card_fits self.now.memory.now part.card }
+        ensures { result ≡ card_fits self.now.memory.now part.card.0 }
     {
         let inbox = own(self.memory, part, Word::Count).min(48);
         let held = own(self.memory, part, Word::Held).min(16);
         counts_fit(self.memory, part)
-            & each(inbox, |k| self.block_fits(place_of(self.memory, part, k)))
-            & each(held, |k| self.tagged_fits(part.held_block(k)))
+            & (0..inbox).fold(
+                true,
+                |all, k| all & self.block_fits(place_of(self.memory, part, k)),
+            )
+            & (0..held).fold(true, |all, k| all & self.tagged_fits(part.held_block(k)))
     }
 
     // Whether a task's flight slot is in order.
     fn flight_fits(&self, slot: Slot) -> bool
-        ensures { result ≡ flight_fits self.now.memory.now slot.task }
+        ensures { result ≡ flight_fits self.now.memory.now slot.task.0 }
     {
         let tagged = slot.flight_block();
         no_flight(self.memory, slot)
@@ -77,15 +79,15 @@ impl<'a> Checked<'a> {
     {
         let last = made(self.memory);
         let first = first_recent(last);
-        each(last.0.min(MOST_BEHIND), |k| {
-            self.broadcast_fits(first + k as usize)
+        (0..last.0.min(MOST_BEHIND)).fold(true, |all, k| {
+            all & self.broadcast_fits(first + k as usize)
         })
     }
 }
 
 // Whether a card's counts are in order.
 fn counts_fit(memory: &[u32; WORDS], part: Part) -> bool
-    ensures { result ≡ counts_fit memory.now part.card }
+    ensures { result ≡ counts_fit memory.now part.card.0 }
 {
     let taken = taken_of(memory, part).0 as usize;
     let last = made(memory).0 as usize;
@@ -119,17 +121,16 @@ pub fn well_sized(memory: &[u32; WORDS]) -> bool
         limits: limits_of(memory),
     };
     head_fits(memory)
-        & each(
-            cards(memory),
-            |i|
+        & (0..cards(memory)).fold(
+            true,
+            |all, i|
                 requires { i < 8 }
-            { checked.card_fits(Part { card: i }) },
+            { all & checked.card_fits(Part { card: Card(i) }) },
         )
-        & each(
-            tasks(memory),
+        & (0..tasks(memory)).all(
             |t|
                 requires { t < 16 }
-            { checked.flight_fits(Slot { task: t }) },
+            { checked.flight_fits(Slot { task: Task(t) }) },
         )
         & checked.recent_all()
 }

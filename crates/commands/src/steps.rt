@@ -127,6 +127,8 @@ fn send_read(argument: [u8; 8], cards: u32, tasks: u32) -> Result<Command, Refus
 }
 
 // The command that a code and its argument are to a store with this channel, or their refusal. Each reads the sizes that it needs, no other.
+// Inlined, so that a caller that looks for a few commands tests for no others.
+#[inline(always)]
 #[tactic(auto, using(lists::specs::Tests::cases), unfolding(crate::specs::Decode::decode_of, crate::specs::Decode::decided))]
 pub fn decode(
     channel: &[u32; channel::WORDS],
@@ -146,6 +148,6 @@ pub fn decode(
         8 => Ok(Command::TakeSingle(task_alone(argument, tasks(channel))?)),
         9 => Ok(Command::Deliver(card_alone(argument, cards(channel))?)),
         10 => Ok(Command::Report(task_alone(argument, tasks(channel))?)),
-        _ => Err(Refusal::NoStep),
+        0 | 11..=255 => Err(Refusal::NoStep),
     }
 }

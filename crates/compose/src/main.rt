@@ -11,7 +11,7 @@ mod words;
 
 use failure::Failure;
 use run::{LONGEST_FILE, Run};
-use std::io::{Print, Read};
+use std::io::{Print, Read, Stdout};
 use std::process::ExitCode;
 use text::Text;
 
@@ -20,31 +20,37 @@ const PIECES: usize = 64;
 
 const PIECE: usize = 65536;
 
-// Reads a text to its end, or until a line is wrong.
-fn read(input: &mut impl Read) -> Result<Run, Failure> {
-    let mut text = Text::new();
+// Reads a text to its end, or until a line is wrong. Not inlined, nor is `write`: so their buffers do not stand on the stack together.
+#[inline(never)]
+fn read(input: &mut impl Read, text: &mut Text) -> Result<(), Failure> {
     let mut piece = [0u8; PIECE];
     for _ in 0..PIECES {
-        let n = console::read_whole(input, &mut piece)?;
+        let n = console::read_input(input, &mut piece)?;
         text.add(&piece[..n])?;
         if n < PIECE {
             return text.end();
         }
     }
-    match console::read_whole(input, &mut piece[..1])? {
+    match console::read_input(input, &mut piece[..1])? {
         0 => text.end(),
         _ => Err(Failure::TooLong),
     }
 }
 
-fn compose(rt: HostRuntime) -> Result<(), Failure> {
-    let run = read(&mut rt.stdin())?;
+#[inline(never)]
+fn write(stdout: Stdout, run: &Run) -> Result<(), Failure> {
     let mut file = [0u8; LONGEST_FILE];
     let length = run.write(&mut file)?;
-    rt.stdout()
+    stdout
         .write_all(&file[..length])
         .map_err(console::Failure::from)?;
     Ok(())
+}
+
+fn compose(rt: HostRuntime) -> Result<(), Failure> {
+    let mut text = Text::new();
+    read(&mut rt.stdin(), &mut text)?;
+    write(rt.stdout(), text.run())
 }
 
 fn main(rt: HostRuntime) -> ExitCode {

@@ -47,16 +47,21 @@ impl Text {
     }
 
     // The text is whole, and with it its last line.
-    pub(crate) fn end(mut self) -> Result<Run, Failure> {
+    pub(crate) fn end(&mut self) -> Result<(), Failure> {
         self.end_line()?;
-        let Text { told, run, .. } = self;
+        let told = self.told;
         match told {
-            Some(told) if told.counts != run.counts() => Err(Failure::Line {
+            Some(told) if told.counts != self.run.counts() => Err(Failure::Line {
                 line: told.line,
                 wrong: Wrong::CountsOtherwise,
             }),
-            _ => Ok(run),
+            _ => Ok(()),
         }
+    }
+
+    // What its lines said.
+    pub(crate) fn run(&self) -> &Run {
+        &self.run
     }
 
     fn failure(&self, wrong: Wrong) -> Failure {

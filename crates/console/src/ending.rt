@@ -1,6 +1,7 @@
 // How a program ends. One that cannot go on says why on standard error, in one line, and ends with a status that is not 0.
-ghost use Rattle.std.specs.Prelude.{◌≡◌, ◌≤◌, length, IfOk, OnErr, OnOk};
+ghost use Rattle.std.specs.Prelude.{◌≡◌, ◌≤◌, length, IfErr, IfOk, OnErr, OnOk};
 ghost use Rattle.std.specs.Process.{exit_status};
+ghost use Rattle.console.specs.declared.ending.Failure.TheVariants.{Unread};
 
 use std::fmt::Display;
 use std::io;
@@ -17,7 +18,7 @@ pub enum Failure {
     Unwritten,
 }
 
-// Input is read by `read_whole` alone: any other error is one of output.
+// Input is read by `read_input` alone: any other error is one of output.
 impl From<io::Error> for Failure {
     ghost use Rattle.console.specs.declared.ending.Failure.TheVariants.{Unwritten};
 
@@ -44,16 +45,23 @@ pub fn ended<E: Display + Drop>(mut stderr: Stderr, name: &str, outcome: Result<
 
 // Reads an input to its end or until the buffer is full: how many bytes it put at the start of the buffer.
 // Kept: a loop over reads. `read_to_end` wants an allocator and has no limit, and `read_exact` doesn't say how much it read before the end.
-pub fn read_whole(input: &mut impl Read, buffer: &mut [u8]) -> Result<usize, Failure>
+pub fn read_whole(input: &mut impl Read, buffer: &mut [u8]) -> io::Result<usize>
     ensures { IfOk result (λ n. n ≤ length buffer.new) }
 {
     let mut done = 0;
     while done < buffer.len() {
-        match input.read(&mut buffer[done..]) {
-            Ok(0) => break,
-            Ok(n) => done += n,
-            Err(_) => return Err(Failure::Unread),
+        match input.read(&mut buffer[done..])? {
+            0 => break,
+            n => done += n,
         }
     }
     Ok(done)
+}
+
+// The same, for a program: any error is that its input cannot be read.
+pub fn read_input(input: &mut impl Read, buffer: &mut [u8]) -> Result<usize, Failure>
+    ensures room { IfOk result (λ n. n ≤ length buffer.new) }
+    ensures why { IfErr result (λ failure. failure ≡ Unread) }
+{
+    read_whole(input, buffer).map_err(|_| Failure::Unread)
 }

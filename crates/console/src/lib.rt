@@ -6,7 +6,7 @@ mod page;
 mod pieces;
 mod refusals;
 
-pub use ending::{Failure, ended, read_whole};
+pub use ending::{Failure, ended, read_input, read_whole};
 pub use page::Page;
 pub use pieces::{decimal, hexadecimal};
 pub use refusals::Refused;

@@ -1,5 +1,5 @@
 // Standard output in pages, so that a long text takes few calls.
-ghost use Rattle.std.specs.Prelude.{◌≡◌, ◌+◌, ◌-◌, ◌<◌, ◌≤◌, [], ◌++◌, length, min, IfOk, Ok, OnOk};
+ghost use Rattle.std.specs.Prelude.{◌≡◌, ◌+◌, ◌-◌, ◌<◌, ◌≤◌, [], ◌++◌, length, min, IfOk, IsOk, Ok, OnOk};
 ghost use Rattle.std.specs.Io.{WritesAtMost};
 ghost use Rattle.arrayvec.specs.ArrayVec.{array_vec_len};
 
@@ -34,6 +34,18 @@ impl Page {
         self.bytes.clear();
         Ok(())
     }
+
+    // A text that the page has no room for: what fits, and then page after page.
+    #[cold]
+    #[inline(never)]
+    fn write_past(&mut self, buf: &[u8]) -> io::Result<()> {
+        let n = self.write(buf)?;
+        for piece in buf[n..].chunks(65536) {
+            self.turn()?;
+            self.write(piece)?;
+        }
+        Ok(())
+    }
 }
 
 impl Write for Page {
@@ -53,5 +65,16 @@ impl Write for Page {
         ensures { OnOk result (self.new.bytes.items ≡ []) }
     {
         self.turn()
+    }
+
+    // Nearly every text finds room.
+    #[inline(always)]
+    fn write_all(&mut self, buf: &[u8]) -> io::Result<()>
+        ensures gathers { array_vec_len self.old.bytes + length buf.now ≤ 65536 → (IsOk result) × (self.new.bytes.items ≡ self.old.bytes.items ++ buf.now) }
+    {
+        if self.bytes.try_extend_from_slice(buf).is_ok() {
+            return Ok(());
+        }
+        self.write_past(buf)
     }
 }

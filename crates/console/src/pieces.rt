@@ -21,8 +21,10 @@ pub fn decimal(text: &str) -> Option<u32>
 
 /// Bytes in hexadecimal, each after a space.
 pub fn hexadecimal(out: &mut impl Write, bytes: &[u8]) -> io::Result<()> {
+    // Kept: two digits from a table. With `{byte:02x}` a line of bytes takes more than twice as long.
+    let digit = |half: u8| b"0123456789abcdef"[half as usize % 16];
     for byte in bytes {
-        write!(out, " {byte:02x}")?;
+        out.write_all(&[b' ', digit(byte >> 4), digit(byte & 15)])?;
     }
     Ok(())
 }

@@ -10,7 +10,7 @@ use std::process::ExitCode;
 
 fn run(rt: HostRuntime) -> Result<(), Failure> {
     let mut input = [0; 65536];
-    let n = console::read_whole(&mut rt.stdin(), &mut input)?;
+    let n = console::read_input(&mut rt.stdin(), &mut input)?;
     let mut out = [0; 20482];
     let count = runfile::reply(&input[..n], &mut out);
     Ok(rt.stdout().write_all(&out[..count])?)

@@ -18,6 +18,18 @@ use std::io;
 use std::io::Write;
 use std::process::ExitCode;
 
+// Not inlined, nor is `answers::write`: so the room and the tables do not stand on the stack together.
+#[inline(never)]
+fn file_sample(out: &mut impl Write, kind: u8, digits: &[u8]) -> io::Result<()> {
+    let mut room = [0; text::ROOM];
+    let file = &mut room[..text::bytes_in(digits)];
+    text::fill(file, digits);
+    match kind {
+        b'j' => files::judge(out, file),
+        _ => files::read(out, file),
+    }
+}
+
 fn sample(out: &mut impl Write, line: &[u8]) -> io::Result<()> {
     let [kind, _, rest @ ..] = line else {
         return Ok(());
@@ -26,11 +38,9 @@ fn sample(out: &mut impl Write, line: &[u8]) -> io::Result<()> {
     let (name, digits) = rest.split_at(colon.unwrap_or(rest.len()));
     out.write_all(name)?;
     write!(out, ": ")?;
-    let given = text::given(digits);
     match *kind {
-        b'j' => files::judge(out, text::file(&given)),
-        b'w' => answers::write(out, &given),
-        _ => files::read(out, text::file(&given)),
+        b'w' => answers::write(out, digits),
+        kind => file_sample(out, kind, digits),
     }
 }
 
@@ -50,7 +60,7 @@ fn samples(out: &mut impl Write, input: &[u8]) -> io::Result<()> {
 // the closure may be called.
 fn run(rt: HostRuntime) -> Result<(), Failure> {
     let mut input = [0; 65536];
-    let n = console::read_whole(&mut rt.stdin(), &mut input)?;
+    let n = console::read_input(&mut rt.stdin(), &mut input)?;
     let mut out = Page::new(rt.stdout());
     samples(&mut out, &input[..n])?;
     Ok(out.flush()?)

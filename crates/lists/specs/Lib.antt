@@ -3,7 +3,7 @@ pub mod Conjunctions
 pub mod All
 pub mod Every
 pub mod Loops
-pub mod Answers
+pub mod Folds
 pub mod Made
 pub mod Rearranging
 pub mod Parts

@@ -1,4 +1,2 @@
-// General facts on lists, tests, counted loops, histories and sorting, which the other crates cite, and two loops with a test of each number.
+// General facts on lists, tests, counted loops, histories and sorting, which the other crates cite. There is no code here.
 #![tactic(auto)]
-
-pub mod loops;

@@ -49,7 +49,7 @@ fn asked(rt: HostRuntime) -> Option<Numbers> {
 fn run(rt: HostRuntime) -> Result<(), Failure> {
     let Numbers { seed, steps } = asked(rt).ok_or(Failure::Arguments)?;
     let mut input = [0; 65536];
-    let n = console::read_whole(&mut rt.stdin(), &mut input)?;
+    let n = console::read_input(&mut rt.stdin(), &mut input)?;
     let mut out = [0; 36949];
     let length = loads::load_for(seed, &input[..n], steps, &mut out).map_err(Refused)?;
     let load = &out[..(length as usize).min(out.len())];

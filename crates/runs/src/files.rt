@@ -23,7 +23,7 @@ fn read(rt: HostRuntime, name: &str, ending: &str, buffer: &mut [u8]) -> Result<
 {
     let path = path(name, ending).ok_or(Failure::Unread)?;
     let mut file = fs::open(&rt, path.as_str()).map_err(|_| Failure::Unread)?;
-    console::read_whole(&mut file, buffer)
+    console::read_input(&mut file, buffer)
 }
 
 // The number of steps in an answer.

@@ -77,7 +77,7 @@ fn print(rt: HostRuntime, results: &[u8]) -> Result<(), console::Failure> {
 // No answer file fills the buffer: a longer input is judged by what is read of it.
 fn run(rt: HostRuntime) -> Result<(), Failure> {
     let mut input = [0; 65536];
-    let n = console::read_whole(&mut rt.stdin(), &mut input)?;
+    let n = console::read_input(&mut rt.stdin(), &mut input)?;
     let results = results_of(&input[..n])?;
     Ok(print(rt, results)?)
 }

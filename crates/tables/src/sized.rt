@@ -9,7 +9,6 @@ use super::layout::{
 };
 use super::outbox::count;
 use channel::Limits;
-use lists::loops::each;
 use names::letters::function_fits;
 use names::{Card, Register, Task};
 
@@ -69,7 +68,9 @@ impl<'a> Checked<'a> {
     {
         let head = self.registers[OUTBOX + card_place(card) * 34];
         let count = count(self.registers, card);
-        (head < 16) & (count <= 16) & each(count.min(16), |k| self.out_fits(card, k))
+        (head < 16)
+            & (count <= 16)
+            & (0..count.min(16)).fold(true, |all, k| all & self.out_fits(card, k))
     }
 }
 
@@ -77,17 +78,16 @@ impl<'a> Checked<'a> {
 fn registers_sized(registers: &[u32; 593], channel: &[u32; channel::WORDS]) -> bool
     ensures { result ≡ registers_sized registers.now channel.now }
 {
+    let limits = channel::limits_of(channel);
     let checked = Checked {
         registers,
         channel,
-        limits: channel::limits_of(channel),
+        limits,
     };
     (registers[REQUESTS] <= 65535)
-        & each(channel::tasks(channel), |t| checked.task_fits(Task(t)))
-        & each(channel::registers(channel), |x| {
-            checked.register_fits(Register(x))
-        })
-        & each(channel::cards(channel), |i| checked.outbox_fits(Card(i)))
+        & (0..limits.tasks).fold(true, |all, t| all & checked.task_fits(Task(t)))
+        & (0..limits.registers).fold(true, |all, x| all & checked.register_fits(Register(x)))
+        & (0..limits.cards).fold(true, |all, i| all & checked.outbox_fits(Card(i)))
 }
 
 // Whether both memories are well sized; else a step is refused with 6.

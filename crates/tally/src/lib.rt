@@ -2,7 +2,7 @@
 #![tactic(auto)]
 
 ghost use Rattle.std.specs.Prelude.{◌≡◌};
-ghost use Rattle.tally.specs.Tally.{counted};
+ghost use Rattle.tally.specs.Tally.{tally_of, counted};
 
 use names::raise;
 
@@ -13,13 +13,22 @@ pub struct Tally {
     pub refused: u32,
 }
 
+// The tally of two counts after n more steps taken and m more refused. A count stays at its largest value once there.
+#[tactic(auto, unfolding(crate::specs::Tally::counted))]
+pub fn counted(taken: u32, refused: u32, n: u32, m: u32) -> Tally
+    ensures { result ≡ counted (tally_of taken refused) n m }
+{
+    Tally {
+        taken: raise(taken, n),
+        refused: raise(refused, m),
+    }
+}
+
 impl Tally {
-    // So many more steps taken and refused, in place. A count stays at its largest value once there.
-    #[tactic(auto, unfolding(crate::specs::Tally::counted))]
+    // So many more steps taken and refused, in place.
     pub fn count(&mut self, taken: u32, refused: u32)
         ensures { self.new ≡ counted self.old taken refused }
     {
-        self.taken = raise(self.taken, taken);
-        self.refused = raise(self.refused, refused);
+        *self = counted(self.taken, self.refused, taken, refused);
     }
 }

@@ -9,9 +9,10 @@ use native.Mathlib.Omega.{arith}
 use borrow.Author.Tests.{lt-ltb, le-ltb}
 use lib.Dec.{eqb, ltb}
 use lib.ListN.{length, get_or, set, take, replicate}
-use lib.Seq.{take-suc, length-take-le}
+use lib.Seq.{take-suc, take-set-lt, length-take-le}
+use Rattle.std.proofs.lemmas.List.{length-take, take-set-le, get_or-take}
 use Rattle.lists.specs.Filters.{keep}
-use Rattle.lists.specs.Listings.{listing, listing_cong, listing_at, listing_set}
+use Rattle.lists.specs.Listings.{listing, listing_zero, listing_snoc, listing_cong, listing_length, listing_at, listing_set}
 use Rattle.lists.specs.Queues.{push}
 use Rattle.lists.specs.Tests.{eqb_refl, eqb_not}
 use Rattle.totals.specs.Totals.{added, summed, group, group_count, card_sums, card_added}
@@ -20,6 +21,31 @@ use Rattle.totals.proofs.Adding.{summed_snoc}
 pub sums_none : card_sums [] [] ≡ replicate group_count 0
 unfolding card_sums listing summed
 sums_none = refl
+
+-- the ninth sum lies behind the groups' sums: of these the card's own alone grows
+pub added_apart : (sums : List ℕ) (card operand : ℕ)
+    → take group_count (set sums (min card group_count) (added (get_or sums (min card group_count) 0) operand)) ≡ card_added (take group_count sums) card operand
+unfolding card_added
+added_apart sums card operand = go (dec_lt card group_count)
+  where
+    go : Dec (card < group_count)
+        → take group_count (set sums (min card group_count) (added (get_or sums (min card group_count) 0) operand))
+        ≡ cond (ltb card group_count) (set (take group_count sums) card (added (get_or (take group_count sums) card 0) operand)) (take group_count sums)
+    go (yes h) =
+        let low : min card group_count ≡ card = omega arith in
+        rw (low, lt-ltb card group_count h, get_or-take group_count sums card 0 h) (take-set-lt group_count sums card _ h)
+    go (no h) =
+        let high : min card group_count ≡ group_count = omega arith in
+        rw (high, le-ltb card group_count (omega arith)) (take-set-le group_count sums group_count _ (omega arith))
+
+-- the first n of a list named one by one, where it has n
+named : (l : List ℕ) (n : ℕ) → n ≤ length l → listing (λ i. get_or l i 0) n ≡ take n l
+named l zero h = listing_zero _
+named l (suc n) h = listing_snoc _ n ∙ ap (λ t. t ++ (get_or l n 0 ∷ [])) (named l n (omega arith)) ∙ sym (take-suc l n 0 (omega arith))
+
+pub sums_named : (sums cs ws : List ℕ) → take group_count sums ≡ card_sums cs ws → listing (λ i. get_or sums i 0) group_count ≡ card_sums cs ws
+unfolding card_sums
+sums_named sums cs ws e = named sums group_count (omega (arith, length-take group_count sums, ap length e, listing_length (λ i. summed (group i cs ws)) group_count)) ∙ e
 
 -- ---- one update more
 

@@ -2,7 +2,7 @@
 // (RULES 16). Two readings, and both give the same.
 #![tactic(auto)]
 
-ghost use Rattle.std.specs.Prelude.{◌≡◌};
+ghost use Rattle.std.specs.Prelude.{take, ◌≡◌};
 ghost use Rattle.names.specs.Refusals.{number_of};
 ghost use Rattle.totals.specs.Totals.{summed, card_added, card_sums, cards_known, log_refusal, totalled, total_of, total_by_card};
 
@@ -48,25 +48,25 @@ fn sum_of(numbers: &[u32]) -> u32
     total
 }
 
-// One operand more in its card's sum; a card above 7 has none.
-#[tactic(auto, unfolding(crate::specs::Totals::card_added))]
-fn add(sums: &mut [u32; 8], card: usize, operand: u32)
-    ensures { sums.new ≡ card_added sums.old card operand }
+// One operand more in its card's sum, without a jump; the ninth sum is for all cards above 7, and no group's.
+#[tactic(auto, using(crate::proofs::CardSums::added_apart))]
+fn add(sums: &mut [u32; 9], card: usize, operand: u32)
+    ensures { take 8 sums.new ≡ card_added (take 8 sums.old) card operand }
 {
-    if card < 8 {
-        sums[card] = sum(sums[card], operand);
-    }
+    let place = card.min(8);
+    sums[place] = sum(sums[place], operand);
 }
 
 // The sum of each card's group, card 0 to card 7, of any two lists: as far as both go, and no card above 7.
 pub fn card_sums(cards: &[u8], operands: &[u32]) -> [u32; 8]
     ensures { result ≡ card_sums cards.now operands.now }
 {
-    let mut sums = [0; 8];
+    let mut sums = [0; 9];
     for (&card, &operand) in cards.iter().zip(operands) {
         add(&mut sums, card as usize, operand);
     }
-    sums
+    let [a, b, c, d, e, f, g, h, _] = sums;
+    [a, b, c, d, e, f, g, h]
 }
 
 // The plain reading: the operands as they stand.

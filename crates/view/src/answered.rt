@@ -3,10 +3,8 @@ use crate::step::{Kind, Step};
 use std::io;
 use std::io::Write;
 
-// The results of a step that is taken.
+// The result of a step that is taken, and whose message is not held.
 const DONE: u8 = 0;
-
-const HELD: u8 = 100;
 
 // Of each task, whether its last request taken was of a read, so that a report of a read is known from one of an update.
 #[derive(Drop)]
@@ -24,16 +22,12 @@ impl Reports {
     // What was answered to a step of a task, to the end of the line.
     pub(crate) fn show(&mut self, out: &mut impl Write, step: &Step) -> io::Result<()> {
         let result = step.result;
-        match result {
-            DONE => write!(out, "taken")?,
-            HELD => write!(out, "held")?,
-            _ => {
-                write!(out, "refused {result}: ")?;
-                out.write_all(words::phrase(result))?;
-            }
-        }
         if names::is_taken(result) {
+            out.write_all(if result == DONE { b"taken" } else { b"held" })?;
             self.taken(out, step)?;
+        } else {
+            write!(out, "refused {result}: ")?;
+            out.write_all(words::phrase(result))?;
         }
         writeln!(out)
     }

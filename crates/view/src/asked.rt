@@ -76,7 +76,7 @@ fn change(out: &mut impl Write, step: &Step, kind: Kind) -> io::Result<()> {
 fn readable(step: &Step) -> Option<Kind> {
     match (step.kind()?, Refusal::try_from(step.result)) {
         (_, Ok(Refusal::NoStep | Refusal::NotZero)) => None,
-        (Kind::RequestUpdate, _) if function(step.argument[2]).is_none() => None,
+        (Kind::RequestUpdate, _) if !names::known_function(u32::from(step.argument[2])) => None,
         (kind, _) => Some(kind),
     }
 }

@@ -45,7 +45,7 @@ fn show(out: &mut impl Write, file: &[u8]) -> io::Result<()> {
 // An input that fills the buffer is longer than any file that is accepted, and what is read of it gets its number: 3 or 2.
 fn run(rt: HostRuntime) -> Result<(), Failure> {
     let mut input = [0u8; 65536];
-    let n = console::read_whole(&mut rt.stdin(), &mut input)?;
+    let n = console::read_input(&mut rt.stdin(), &mut input)?;
     let mut out = Page::new(rt.stdout());
     show(&mut out, &input[..n])?;
     Ok(out.flush()?)

@@ -20,4 +20,4 @@ unfolding broadcasts_of broadcast_at
 short ws i h = let m = total_most (broadcast_at ws i) (min (count_of ws i) 48) (λ k g. bit (several (letter_at ws (place_of ws i k)).to)) in omega arith
 
 pub returns-else-own-ge32 : goal.returns-else-own-ge32
-returns-else-own-ge32 c = rw (lt-leb 32 c.own.result c.if-own-ge32.false, lt-leb 32 _ (short c.args.memory.now c.args.part.card (rw c.own.ensures at c.if-own-ge32.false)))
+returns-else-own-ge32 c = rw (lt-leb 32 c.own.result c.if-own-ge32.false, lt-leb 32 _ (short c.args.memory.now c.args.part.card.0 (rw c.own.ensures at c.if-own-ge32.false)))

@@ -1,5 +1,5 @@
 use Rattle.channel.proofs.broadcast.join.Goals as goal
--- The answers name no place of `set_own`, so that an edit which moves it is refused by what it breaks.
+-- The answers name no place of `set_taken`, so that an edit which moves it is refused by what it breaks.
 use Prim.Native.Nat.{ℕ}
 use mathlib.Core.Bool.{Bool, true}
 use mathlib.Core.List.{List}

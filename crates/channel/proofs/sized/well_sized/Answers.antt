@@ -1,4 +1,5 @@
 use Rattle.std.proofs.Common.{rules}
+use Rattle.lists.specs.Folds.{fold_each, all_each}
 use Rattle.channel.specs.Sized.{card_fits, flight_fits, well_sized}
 use Rattle.channel.proofs.sized.well_sized.Goals as goal
 
@@ -10,6 +11,6 @@ returns c = let ws = c.args.memory.now in
       ← c.cards.ensures.0,
       ← c.tasks.ensures.0,
       ← c.recent_all.ensures,
-      ← c.each.ensures (card_fits ws) (λ k h b post. search rules),
-      ← c.each-2.ensures (flight_fits ws) (λ k h b post. search rules),
+      ← fold_each (card_fits ws) c.fold.ensures.ran (λ k a b f h post. search rules),
+      ← all_each (flight_fits ws) c.all.ensures.ran (λ k b f h post. search rules),
     )
